@@ -1,0 +1,6 @@
+pub mod Text
+pub mod Words
+pub mod Tree
+pub mod Grammar
+pub mod Reader
+pub mod Parser

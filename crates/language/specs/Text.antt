@@ -1,0 +1,32 @@
+-- Texts, names and places, of which every section speaks. A text is the list of its bytes. Assumes nothing: these are definitions.
+use mathlib.Core.Bool.{Bool, true, false, _&&_}
+use mathlib.Core.List.{List, [], _∷_}
+use mathlib.Core.Option.{Option, none, some}
+use Prim.Native.Nat.{ℕ, zero, suc, min}
+use lib.Dec.{eqb}
+
+-- Two names are the same where their bytes are.
+unfoldable pub same : List ℕ → List ℕ → Bool
+same [] [] = true
+same [] (b ∷ t) = false
+same (a ∷ s) [] = false
+same (a ∷ s) (b ∷ t) = eqb a b && same s t
+
+-- "A place is the byte offset of the first byte meant". A name as it stands at a place:
+pub record Name : Type 0 where
+  pub at : ℕ
+  pub spelled : List ℕ
+
+-- where a name stands first in a list of names; past the end where it does not
+unfoldable pub index : List (List ℕ) → List ℕ → ℕ
+index [] s = zero
+index (n ∷ ns) s = elim (same n s) [ true ↦ zero | false ↦ suc (index ns s) ]
+
+unfoldable pub among : List (List ℕ) → List ℕ → Bool
+among [] s = false
+among (n ∷ ns) s = elim (same n s) [ true ↦ true | false ↦ among ns s ]
+
+-- "within one the earliest place decides"
+unfoldable pub earliest : List ℕ → Option ℕ
+earliest [] = none
+earliest (p ∷ ps) = elim (earliest ps) [ none ↦ some p | some q ↦ some (min p q) ]
