@@ -1,6 +1,6 @@
 -- Texts, names and places, of which every section speaks. A text is the list of its bytes. Assumes nothing: these are definitions.
 use mathlib.Core.Bool.{Bool, true, false, _&&_}
-use mathlib.Core.List.{List, [], _∷_}
+use mathlib.Core.List.{List, [], _∷_, _++_}
 use mathlib.Core.Option.{Option, none, some}
 use Prim.Native.Nat.{ℕ, zero, suc, min}
 use lib.Dec.{eqb}
@@ -30,3 +30,18 @@ among (n ∷ ns) s = elim (same n s) [ true ↦ true | false ↦ among ns s ]
 unfoldable pub earliest : List ℕ → Option ℕ
 earliest [] = none
 earliest (p ∷ ps) = elim (earliest ps) [ none ↦ some p | some q ↦ some (min p q) ]
+
+-- "The line at fault can be had as a part of whichever of the two texts the place names, without its line end."
+-- `before` are the bytes of the line so far, and p counts down to the place
+unfoldable pub upToEnd : List ℕ → List ℕ
+upToEnd [] = []
+upToEnd (b ∷ r) = elim (eqb b 10) [ true ↦ [] | false ↦ b ∷ upToEnd r ]
+
+unfoldable pub lineFrom : List ℕ → List ℕ → ℕ → List ℕ
+lineFrom before [] p = []
+lineFrom before (b ∷ r) zero = before ++ upToEnd (b ∷ r)
+lineFrom before (b ∷ r) (suc p) = elim (eqb b 10) [ true ↦ lineFrom [] r p | false ↦ lineFrom (before ++ (b ∷ [])) r p ]
+
+-- "A place outside its text gets the empty part at that text's end."
+unfoldable pub lineAt : List ℕ → ℕ → List ℕ
+lineAt text p = lineFrom [] text p

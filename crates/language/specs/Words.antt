@@ -8,6 +8,7 @@ use Prim.Native.String.{String}
 use lib.Dec.{eqb, leb, ltb}
 use lib.ListN.{length, drop}
 use Rattle.language.specs.Text.{Name, same, among}
+use Rattle.language.specs.Limits.{limits}
 
 -- a number as it stands at a place: its value, and how many bytes long it is
 pub record Numeral : Type 0 where
@@ -121,7 +122,7 @@ first-of (s ∷ l) t = elim (t (bytes s)) [ true ↦ some s | false ↦ first-of
 -- "A name starts with a letter, or with underscores and later has a letter or digit; `_` alone is the default mark. Names have at most 31 bytes."
 -- `run` is the longest run of letters, digits and underscores, and does not begin with a digit
 unfoldable pub goodName : List ℕ → Bool
-goodName run = some-of plainByte run && leb (length run) 31 && not (among (spellings keywords) run)
+goodName run = some-of plainByte run && leb (length run) (limits .name) && not (among (spellings keywords) run)
 
 unfoldable pub ownName : List ℕ → Bool
 ownName run = goodName run && not (among (spellings left-out) run)
@@ -137,9 +138,9 @@ nameNext run =
 unfoldable pub digitOf : ℕ → ℕ
 digitOf b = elim (leb b 57) [ true ↦ b - 48 | false ↦ elim (leb b 90) [ true ↦ b - 55 | false ↦ b - 87 ] ]
 
-unfoldable pub valueIn : ℕ → ℕ → List ℕ → ℕ
-valueIn base n [] = n
-valueIn base n (b ∷ r) = valueIn base (n * base + digitOf b) r
+unfoldable pub valueInBase : ℕ → ℕ → List ℕ → ℕ
+valueInBase base n [] = n
+valueInBase base n (b ∷ r) = valueInBase base (n * base + digitOf b) r
 
 unfoldable pub digitIn : ℕ → ℕ → Bool
 digitIn base b = plainByte b && ltb (digitOf b) base
@@ -147,8 +148,8 @@ digitIn base b = plainByte b && ltb (digitOf b) base
 -- "Plain numbers are decimal, at most 4,294,967,295."
 unfoldable pub numberNext : List ℕ → Next
 numberNext run =
-    elim (leb (valueIn 10 0 run) 4_294_967_295) [
-      | true ↦ word (length run) (λ p. num (record { at = p; value = valueIn 10 0 run; long = length run }))
+    elim (leb (valueInBase 10 0 run) (limits .number)) [
+      | true ↦ word (length run) (λ p. num (record { at = p; value = valueInBase 10 0 run; long = length run }))
       | false ↦ wrong
     ]
 
@@ -172,7 +173,7 @@ unfoldable pub quoteNext : List ℕ → Next
 quoteNext [] = wrong
 quoteNext (b ∷ r) =
     elim (span (digitIn (baseOf b)) r) [
-      | d ∷ ds ↦ word (3 + length ds) (λ p. digits (record { at = p; value = valueIn (baseOf b) 0 (d ∷ ds); long = 3 + length ds }))
+      | d ∷ ds ↦ word (3 + length ds) (λ p. digits (record { at = p; value = valueInBase (baseOf b) 0 (d ∷ ds); long = 3 + length ds }))
       | [] ↦ elim (eqb (baseOf b) 10 && namedNext r) [ true ↦ word 2 (fixed "'d") | false ↦ wrong ]
     ]
 
