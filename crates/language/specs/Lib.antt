@@ -5,6 +5,7 @@ pub mod Tree
 pub mod Grammar
 pub mod Reader
 pub mod Parser
+pub mod Statement
 pub mod Parts
 pub mod Names
 pub mod Counts

@@ -1,5 +1,5 @@
 -- The reader of actors: a total function from words to the actor, or to the index of the first word that continues no actor. Assumes nothing: these are definitions.
--- It goes by recursive descent with fuel, of which each call takes one; the crate `grammar` proves it to be the grammar.
+-- It goes by recursive descent with fuel, of which each call takes one. proofs/Main.antt proves it to be the grammar (`Statement`).
 use mathlib.Core.Bool.{Bool, true, false}
 use mathlib.Core.List.{List, [], _∷_}
 use mathlib.Core.Option.{Option, none, some}

@@ -1,0 +1,12 @@
+mod Tests
+mod Laws
+mod Lists
+mod Whole
+mod Types
+mod Good
+mod Settled
+mod Complete
+mod Like
+mod Statements
+mod Actors
+mod Main
