@@ -73,7 +73,7 @@ tooMany n ns = each (λ m. m .at ∷ []) (drop n ns)
 unfoldable pub sizeOf : Memory → ℕ
 sizeOf m = elim (m .size) [ one ↦ 1 | cells n ↦ n .value ]
 
--- "a bad size .. number .. else a name"
+-- the size number of a memory, or its name where it has none: "a bad size .. number .., else a name"
 unfoldable pub sizePlace : Memory → ℕ
 sizePlace m = elim (m .size) [ one ↦ m .called .at | cells n ↦ n .at ]
 

@@ -47,6 +47,10 @@ operators =
     operator "&&" 7 Both ∷
     operator "||" 8 Either ∷ []
 
+-- operands with any operators between them
+abbrev pub loosest : ℕ
+loosest = 9
+
 unfoldable pub operatorIn : List Operator → String → Option Operator
 operatorIn [] s = none
 operatorIn (o ∷ os) s = elim (eqt (o .sign) s) [ true ↦ some o | false ↦ operatorIn os s ]
@@ -108,9 +112,9 @@ pub data Derives (ms : List (List ℕ)) : Sort → List Word → Expr → Type 0
       → Derives ms expr (fixed "if" p ∷ (a ++ (fixed "then" q ∷ (b ++ (fixed "else" r ∷ c))))) (either p x y z)
   d-expr : {a : List Word} {x : Expr} → Derives ms cond a x → Derives ms expr a x
   -- "All operators group to the left, `?:` included."
-  d-cond : {a b c : List Word} {x y z : Expr} (p q : ℕ) → Derives ms cond a x → Derives ms expr b y → Derives ms (bin 9) c z
+  d-cond : {a b c : List Word} {x y z : Expr} (p q : ℕ) → Derives ms cond a x → Derives ms expr b y → Derives ms (bin loosest) c z
       → Derives ms cond (a ++ (fixed "?" p ∷ (b ++ (fixed ":" q ∷ c)))) (choice x y z)
-  d-bins : {a : List Word} {x : Expr} → Derives ms (bin 9) a x → Derives ms cond a x
+  d-bins : {a : List Word} {x : Expr} → Derives ms (bin loosest) a x → Derives ms cond a x
   d-bin : (s : String) {o : Operator} {a b : List Word} {x y : Expr} (p : ℕ) → operatorIn operators s ≡ some o → Derives ms (bin (suc (o .level))) a x → Derives ms (bin (o .level)) b y
       → Derives ms (bin (suc (o .level))) (a ++ (fixed s p ∷ b)) (binary (o .which) x y)
   d-up : {n : ℕ} {a : List Word} {x : Expr} → Derives ms (bin n) a x → Derives ms (bin (suc n)) a x

@@ -34,11 +34,12 @@ unfoldable pub cellsOf : List Memory → List ℕ → ℕ
 cellsOf [] s = 0
 cellsOf (m ∷ ms) s = elim (same (m .called .spelled) s) [ true ↦ sizeOf m | false ↦ cellsOf ms s ]
 
--- the width of each cell
+-- n times w
 unfoldable pub copiesIn : ℕ → ℕ → List ℕ
 copiesIn zero w = []
 copiesIn (suc n) w = w ∷ copiesIn n w
 
+-- the width of each cell
 unfoldable pub cellWidths : Setting → List ℕ
 cellWidths s = each (λ m. copiesIn (sizeOf m) (memoryWidth (s .actor) (s .widths) (m .called .spelled))) (s .actor .memories)
 

@@ -13,7 +13,7 @@ use Rattle.language.specs.Words.{Word, num, name, digits, fixed, Numeral
 use Rattle.language.specs.Tree.{Ty, number, environment, port, plus, minus, log, ceil, floor, most, entry, within, Breadth, bits, Amount, given, value, Prefix}
 use Rattle.language.specs.Tree.{Expr, plain, sized, copies, read, cell, bit, range, inside, joined, beside, unary, binary, choice, either, select, arm, default}
 use Rattle.language.specs.Tree.{Declared, untyped, Port, Size, one, cells, Memory, Entry, Val, Assignment, assign, write, Statement, alone, scoped, Rule, Group, Actor, spelledOf, memoryNames}
-use Rattle.language.specs.Grammar.{Operator, operators, operatorIn, prefixes, prefixIn}
+use Rattle.language.specs.Grammar.{loosest, Operator, operators, operatorIn, prefixes, prefixIn}
 use Rattle.language.specs.Reader.{Res, ok, bad, dry, bind, on, isNum, isName, isDigits, is, isThe, isFigure, expect, until, manyP, someP, commasP, Verdict, whole}
 use Rattle.language.specs.declared.Unary.{Unary}
 
@@ -47,7 +47,7 @@ unfoldable mutual
   entryL zero a ws = dry
   entryL (suc f) a ws = on (is ",") ws (λ p r. bind (typeP f r) (λ c x. entryL f (entry a c) x)) (λ ws. ok a ws)
 
--- ---- "`|` in a case arm": the words after a `|` say whether it ends the arm: a number and `=>`, or `_`
+-- ---- the words after a `|` in an arm say whether it ends the arm: a number and `=>`, or `_`
 
 unfoldable pub isWord : String → List Word → Bool
 isWord v [] = false
@@ -109,12 +109,12 @@ module _ (ms : List (List ℕ)) where
     exprP (suc f) b ws =
         on (is "if") ws
         (λ p r. until (exprP f false r) "then" (λ a q x. until (exprP f false x) "else" (λ c s y. bind (exprP f b y) (λ d z. ok (either p a c d) z))))
-        (λ ws. bind (binP f b 9 ws) (λ a x. condL f b a x))
+        (λ ws. bind (binP f b loosest ws) (λ a x. condL f b a x))
 
     pub condL : ℕ → Bool → Expr → List Word → Res Expr
     condL zero b a ws = dry
     condL (suc f) b a ws =
-        on (is "?") ws (λ p r. until (exprP f false r) ":" (λ c q x. bind (binP f b 9 x) (λ d y. condL f b (choice a c d) y)))
+        on (is "?") ws (λ p r. until (exprP f false r) ":" (λ c q x. bind (binP f b loosest x) (λ d y. condL f b (choice a c d) y)))
         (λ ws. ok a ws)
 
     -- operands with operators of the levels below n between them

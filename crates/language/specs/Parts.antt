@@ -86,7 +86,7 @@ items (select p e a) = items e ++ items a
 items (arm n e r) = items e ++ items r
 items (default p e) = items e
 
--- ---- what stands in an actor: its whole expressions, "after `=`, in a write's address or in a `val`", and its types
+-- ---- what stands in an actor: its whole expressions (after `=`, in a write's address, in a `val`), and its types
 
 unfoldable pub declaredItems : Declared → List Item
 declaredItems untyped = []

@@ -28,7 +28,7 @@ pub data Answer : Type 0 where
   refused : ℕ → Text → ℕ → Answer
   accepted : Setting → Answer
 
--- rows 1 to 9: a refusal, or the words, the actor and the bindings
+-- rows 1 to 9: a refusal, or the actor and the bindings
 pub data Early : Type 0 where
   stopped : ℕ → Text → ℕ → Early
   through : Actor → Bindings → Early
@@ -53,7 +53,7 @@ judged ws a b =
     (row 9 InActor (unsettled a b)
     (through a b)))))
 
--- row 5, after row 4
+-- row 5. The reader is never `tired` (`Statement`, `answers`)
 unfoldable pub parsed : ℕ → List Word → Bindings → Early
 parsed end ws b = elim (parse ws) [ tree a ↦ judged ws a b | fault i ↦ stopped 5 InActor (wordPlace end ws i) | tired ↦ stopped 5 InActor 0 ]
 
@@ -81,7 +81,7 @@ late a b (some ws) =
       | none ↦ elim (earliest (presenceFaults a)) [ some p ↦ refused 12 InActor p | none ↦ accepted (record { actor = a; bindings = b; widths = ws }) ]
     ]
 
--- an actor text with a bindings text is read as this answer
+-- An actor text with a bindings text is read as this answer. Row 13 is not here: it goes by what is made of the text, and by the room lent for it.
 pub data Reads (text bindings : List ℕ) : Answer → Type 0 where
   reads-early : {n p : ℕ} {t : Text} → early text bindings ≡ stopped n t p → Reads text bindings (refused n t p)
   reads-late : {a : Actor} {b : Bindings} (ws : Option (List ℕ)) → early text bindings ≡ through a b → Resolved a b ws → Reads text bindings (late a b ws)

@@ -2,8 +2,11 @@
 use mathlib.Core.Bool.{Bool, true, false, _&&_}
 use mathlib.Core.List.{List, [], _∷_, _++_}
 use mathlib.Core.Option.{Option, none, some}
-use Prim.Native.Nat.{ℕ, zero, suc, min}
+use Prim.Native.Nat.{ℕ, zero, suc, _+_, min}
 use lib.Dec.{eqb}
+use lib.ListN.{length}
+use Rattle.language.specs.declared.Text.{Text}
+use Rattle.language.specs.declared.Text.the-variants.{Actor as InActor, Bindings as InBindings}
 
 -- Two names are the same where their bytes are.
 unfoldable pub same : List ℕ → List ℕ → Bool
@@ -32,16 +35,22 @@ earliest [] = none
 earliest (p ∷ ps) = elim (earliest ps) [ none ↦ some p | some q ↦ some (min p q) ]
 
 -- "The line at fault can be had as a part of whichever of the two texts the place names, without its line end."
--- `before` are the bytes of the line so far, and p counts down to the place
+-- A part of a text: where it starts, and its bytes.
+pub record Line : Type 0 where
+  pub from : ℕ
+  pub bytes : List ℕ
+
 unfoldable pub upToEnd : List ℕ → List ℕ
 upToEnd [] = []
 upToEnd (b ∷ r) = elim (eqb b 10) [ true ↦ [] | false ↦ b ∷ upToEnd r ]
 
-unfoldable pub lineFrom : List ℕ → List ℕ → ℕ → List ℕ
-lineFrom before [] p = []
-lineFrom before (b ∷ r) zero = before ++ upToEnd (b ∷ r)
-lineFrom before (b ∷ r) (suc p) = elim (eqb b 10) [ true ↦ lineFrom [] r p | false ↦ lineFrom (before ++ (b ∷ [])) r p ]
-
+-- the line starts at `from`, `before` are its bytes so far, and p counts down to the place
 -- "A place outside its text gets the empty part at that text's end."
-unfoldable pub lineAt : List ℕ → ℕ → List ℕ
-lineAt text p = lineFrom [] text p
+unfoldable pub lineFrom : ℕ → List ℕ → List ℕ → ℕ → Line
+lineFrom from before [] p = record { from = from + length before; bytes = [] }
+lineFrom from before (b ∷ r) zero = record { from = from; bytes = before ++ upToEnd (b ∷ r) }
+lineFrom from before (b ∷ r) (suc p) = elim (eqb b 10) [ true ↦ lineFrom (from + length before + 1) [] r p | false ↦ lineFrom from (before ++ (b ∷ [])) r p ]
+
+unfoldable pub lineAt : (actor bindings : List ℕ) → Text → ℕ → Line
+lineAt actor bindings InActor p = lineFrom 0 [] actor p
+lineAt actor bindings InBindings p = lineFrom 0 [] bindings p

@@ -7,7 +7,7 @@ use Rattle.language.specs.Words.{Numeral}
 use Rattle.language.specs.declared.Unary.{Unary}
 use Rattle.language.specs.declared.Binary.{Binary}
 
--- "A type is built from numbers and environment names, `port.type`, `+`, `-`, `log`, `ceil`, `floor`, `max`."
+-- "A type is built from numbers and environment names .., `port.type`, `+`, `-`, `log`, `ceil`, `floor`, `max`."
 -- A number beside `log`, `ceil`, `floor`, `max` or parentheses is the place of their first word; `entry` joins the entries of a `max`.
 pub data Ty : Type 0 where
   number : Numeral → Ty

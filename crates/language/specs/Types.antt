@@ -15,6 +15,7 @@ use Rattle.language.specs.declared.Exact.{Exact}
 -- ---- "let the terms without a log come to k, the arguments of the added logs multiply to A and those of the subtracted ones to B"
 -- k is `up` less `down`: the added and the subtracted terms apart, so that nothing is below zero.
 
+-- `floorOf`, `ceilOf` and `widthOf` below are proved to be what this sentence says, in the crate `typing`.
 -- "The value is at least w exactly when 2^k times A is at least 2^w times B, and at most w likewise, both exponents raised alike where one is negative"
 abbrev pub IsAtLeast : Exact → ℕ → Type 0
 IsAtLeast x w = 2 ^ (w + x .down) * x .b ≤ 2 ^ x .up * x .a
@@ -89,6 +90,10 @@ module _ (widths values : List ℕ → ℕ) where
 
 -- ---- row 8: "type rule above broken; number over 65,535 in a type", at that word
 
+-- "At most two logs stand together"
+abbrev pub together : ℕ
+together = 2
+
 -- the logs that stand outside `floor` and `ceil`
 unfoldable pub logs : Ty → List ℕ
 logs (number n) = []
@@ -113,11 +118,11 @@ rulesBroken top free (port n) = when (not free) (n .at)
 rulesBroken top free (plus s t) = rulesBroken top free s ++ rulesBroken top free t
 rulesBroken top free (minus s t) = rulesBroken top free s ++ rulesBroken false false t
 rulesBroken top free (log p t) = logs t ++ rulesBroken false free t
-rulesBroken top free (ceil p t) = drop 2 (logs t) ++ rulesBroken false free t
-rulesBroken top free (floor p t) = drop 2 (logs t) ++ rulesBroken false free t
+rulesBroken top free (ceil p t) = drop together (logs t) ++ rulesBroken false free t
+rulesBroken top free (floor p t) = drop together (logs t) ++ rulesBroken false free t
 rulesBroken top free (most p t) = when (not top) p ++ rulesBroken false free t
 rulesBroken top free (entry s t) = rulesBroken top free s ++ rulesBroken top free t
 rulesBroken top free (within p t) = rulesBroken top free t
 
 unfoldable pub typeFaults : Ty → List ℕ
-typeFaults t = drop 2 (logs t) ++ rulesBroken true true t
+typeFaults t = drop together (logs t) ++ rulesBroken true true t

@@ -1,6 +1,6 @@
 -- 01, "Words and grammar", its first four points: the words of an actor's bytes, or the place of row 3's first fault. Assumes nothing: these are definitions.
 use mathlib.Core.Bool.{Bool, true, false, not, _&&_, _||_}
-use mathlib.Core.List.{List, [], _∷_}
+use mathlib.Core.List.{List, [], _∷_, _++_}
 use mathlib.Core.Option.{Option, none, some}
 use Prim.Native.Nat.{ℕ, zero, suc, _+_, _-_, _*_}
 use Prim.Native.Char.{Char, code}
@@ -131,7 +131,7 @@ unfoldable pub nameNext : List ℕ → Next
 nameNext run =
     elim (ownName run) [
       | true ↦ word (length run) (λ p. name (record { at = p; spelled = run }))
-      | false ↦ elim (first-of ("_" ∷ "foreach" ∷ "instruction" ∷ keywords) (same run)) [ some s ↦ word (length run) (fixed s) | none ↦ wrong ]
+      | false ↦ elim (first-of ("_" ∷ (left-out ++ keywords)) (same run)) [ some s ↦ word (length run) (fixed s) | none ↦ wrong ]
     ]
 
 -- the value of digits in a base; a digit past 9 is a letter in either case
