@@ -1,0 +1,9 @@
+pub mod Laws
+pub mod Digits
+pub mod Counts
+pub mod Fewest
+pub mod Sets
+pub mod Cases
+pub mod Fits
+pub mod Parts
+pub mod Rules
