@@ -1,12 +1,13 @@
-mod Tests
-mod Laws
-mod Lists
-mod Whole
-mod Types
-mod Good
-mod Settled
-mod Complete
-mod Like
-mod Statements
-mod Actors
-mod Main
+pub mod Tests
+pub mod Laws
+pub mod Lists
+pub mod Whole
+pub mod Types
+pub mod Good
+pub mod Settled
+pub mod Complete
+pub mod Like
+pub mod Statements
+pub mod Actors
+pub mod Main
+pub mod Fewest

@@ -13,7 +13,7 @@ use Rattle.language.specs.declared.Binary.{Binary}
 use Rattle.language.specs.declared.Binary.the-variants.{Multiply, Divide, Remainder, Add, Subtract, Left, Right, Less, AtMost, Greater, AtLeast, Equal, Unequal, And, NotAnd, Xor, NotXor, Or, NotOr, Both, Either}
 use Rattle.value.proofs.Laws.{product, above-lt, wider-lt}
 use Rattle.value.proofs.Digits.{bit-lt, number-lt}
-use Rattle.value.proofs.Fewest.{fewest-holds, fewest-least}
+use Rattle.language.proofs.Fewest.{fewest-holds, fewest-least}
 
 either-lt : (t : Bool) (x y k : ℕ) → x < k → y < k → elim t [ true ↦ x | false ↦ y ] < k
 either-lt true x y k h l = h

@@ -4,7 +4,7 @@ use native.Mathlib.Omega.{arith}
 use lib.Count.{leading-le}
 use Rattle.language.specs.Types.{fewest}
 use Rattle.language.specs.Values.{plainWidth}
-use Rattle.value.proofs.Fewest.{fewest-none, fewest-some, leading-fewest}
+use Rattle.language.proofs.Fewest.{fewest-none, fewest-some, leading-fewest}
 use Rattle.value.proofs.bits.plain_width.Statement.{statement}
 use Rattle.value.proofs.bits.plain_width.Tie as tie
 

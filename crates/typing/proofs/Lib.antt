@@ -1,0 +1,12 @@
+pub mod Logs
+pub mod Compare
+pub mod Order
+pub mod Grows
+pub mod Bounds
+pub mod Cells
+pub mod Walking
+pub mod Progress
+pub mod Decided
+pub mod Rules
+pub mod Bridge
+pub mod Accepted

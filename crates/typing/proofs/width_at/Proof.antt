@@ -1,0 +1,18 @@
+-- `typing::width_at` meets its contract. Assumes nothing.
+use mathlib.Core.Path.{ap, _∙_}
+use Rattle.language.specs.Types.{widthOf}
+use borrow.Author.Needs.{needs}
+use Rattle.typing.proofs.width_at.Statement.{statement}
+use Rattle.typing.proofs.width_at.Tie as tie
+
+value-at-requires : tie.Need-value-at-requires
+value-at-requires c κs = search needs
+
+width-of-requires : tie.Need-width-of-requires
+width-of-requires c κs = search needs
+
+returns : tie.Need-returns
+returns c = λ t s. c .width-of .ensures ∙ ap widthOf (c .before .value-at .ensures .0 t s)
+
+pub width-at-spec : {M : Type 1} → statement M
+width-at-spec = tie.close (tie.spec value-at-requires width-of-requires returns)

@@ -1,0 +1,105 @@
+-- A code walked node by node with the values that wait, and these in cells of four numbers. Assumes nothing: these are definitions.
+use mathlib.Core.Path.{_≡_}
+use mathlib.Core.Bool.{true, false}
+use mathlib.Core.List.{List, [], _∷_}
+use mathlib.Core.Option.{Option, none, some}
+use Prim.Native.Nat.{ℕ, zero, suc, _+_, _-_, _*_, _/_, _%_, _^_, _≤_, _<_}
+use lib.Dec.{eqb, ltb}
+use lib.ListN.{length, getD, take, drop, set}
+use Rattle.language.specs.declared.Exact.{Exact}
+use Rattle.language.specs.Types.{wholeOf, logOf, plusOf, minusOf, greaterOf, floorOf, ceilOf, widthOf}
+use Rattle.typing.specs.Terms.{Term, code}
+use Rattle.typing.specs.declared.Position.{Position}
+use Rattle.typing.specs.declared.Position.the-variants.{At, Outside}
+
+-- the part of a list from one index to another
+abbrev pub part : List ℕ → ℕ → ℕ → List ℕ
+part l from end = take (end - from) (drop from l)
+
+-- the code of t stands there
+pub record Stands (t : Term) (l : List ℕ) (from end : ℕ) : Type 0 where
+  pub inside : end ≤ length l
+  pub is : part l from end ≡ code t
+
+-- ---- what a node does: 0 a number, 1 a port, 2 log, 3 floor, 4 ceil, 5 plus, 6 minus, 7 the greater
+
+unfoldable pub leafOf : List ℕ → ℕ → Exact
+leafOf ws k = elim (eqb (k % 8) 0) [ true ↦ wholeOf (k / 8) 0 | false ↦ wholeOf (getD ws (k / 8) 0) 0 ]
+
+unfoldable pub unaryOf : ℕ → Exact → Exact
+unaryOf op x = elim (eqb op 2) [ true ↦ logOf (widthOf x) | false ↦ elim (eqb op 3) [ true ↦ floorOf x | false ↦ ceilOf x ] ]
+
+unfoldable pub binaryOf : ℕ → Exact → Exact → Exact
+binaryOf op x y = elim (eqb op 5) [ true ↦ plusOf x y | false ↦ elim (eqb op 6) [ true ↦ minusOf x y | false ↦ greaterOf x y ] ]
+
+unfoldable pub onLast : (Exact → Exact) → List Exact → List Exact
+onLast f [] = []
+onLast f (x ∷ r) = f x ∷ r
+
+unfoldable pub onLastTwo : (Exact → Exact → Exact) → List Exact → List Exact
+onLastTwo f [] = []
+onLastTwo f (y ∷ []) = []
+onLastTwo f (y ∷ (x ∷ r)) = f x y ∷ r
+
+-- what a node does to the values that wait, the last one first
+unfoldable pub turn : List ℕ → ℕ → List Exact → List Exact
+turn ws k st =
+    elim (ltb (k % 8) 2) [
+      | true ↦ leafOf ws k ∷ st
+      | false ↦ elim (ltb (k % 8) 5) [ true ↦ onLast (unaryOf (k % 8)) st | false ↦ onLastTwo (binaryOf (k % 8)) st ]
+    ]
+
+unfoldable pub walk : List ℕ → List ℕ → List Exact → List Exact
+walk ws [] st = st
+walk ws (k ∷ ks) st = walk ws ks (turn ws k st)
+
+-- ---- no overflow
+
+-- a value that floor and ceil take
+pub record Space (x : Exact) : Type 0 where
+  pub a-some : 0 < x .a
+  pub b-some : 0 < x .b
+  pub high : x .up + 64 < 2 ^ 64
+  pub low : x .down + 64 < 2 ^ 64
+
+-- two values that any node can join
+pub record Room (x y : Exact) : Type 0 where
+  pub uu : x .up + y .up < 2 ^ 64
+  pub dd : x .down + y .down < 2 ^ 64
+  pub ud : x .up + y .down < 2 ^ 64
+  pub du : x .down + y .up < 2 ^ 64
+  pub aa : x .a * y .a < 2 ^ 64
+  pub bb : x .b * y .b < 2 ^ 64
+  pub ab : x .a * y .b < 2 ^ 64
+  pub ba : x .b * y .a < 2 ^ 64
+
+-- the node k finds what it needs among the values that wait, and its value has a place
+pub data Ready (ws : List ℕ) (k : ℕ) (st : List Exact) : Type 0 where
+  leaf : k % 8 < 2 → (k % 8 ≡ 1 → k / 8 < length ws) → length st < 64 → Ready ws k st
+  unary : (x : Exact) (r : List Exact) → st ≡ x ∷ r → 2 ≤ k % 8 → k % 8 < 5 → Space x → Ready ws k st
+  binary : (x y : Exact) (r : List Exact) → st ≡ y ∷ (x ∷ r) → 5 ≤ k % 8 → Room x y → Ready ws k st
+
+-- ---- the values in cells, four to a value
+
+abbrev pub exactAt : List ℕ → ℕ → Exact
+exactAt l k = record { up = getD l (k * 4) 0; down = getD l (k * 4 + 1) 0; a = getD l (k * 4 + 2) 0; b = getD l (k * 4 + 3) 0 }
+
+abbrev pub stored : List ℕ → ℕ → Exact → List ℕ
+stored l k x = set (set (set (set l (k * 4) (x .up)) (k * 4 + 1) (x .down)) (k * 4 + 2) (x .a)) (k * 4 + 3) (x .b)
+
+-- the first n values, the last one first
+unfoldable pub waiting : List ℕ → ℕ → List Exact
+waiting l zero = []
+waiting l (suc n) = exactAt l n ∷ waiting l n
+
+-- a node's turn in cells: n values wait in l, and then r in m
+pub record Turned (ws : List ℕ) (k : ℕ) (l : List ℕ) (n : ℕ) (m : List ℕ) (r : ℕ) : Type 0 where
+  pub now-wait : waiting m r ≡ turn ws k (waiting l n)
+  pub few : r ≤ 64
+  pub long : length m ≡ 256
+
+-- ---- a bit position in code
+
+abbrev pub positioned : Option ℕ → Position
+positioned none = Outside
+positioned (some n) = At n
