@@ -1,0 +1,169 @@
+-- The groups in turn, on lists. Assumes nothing.
+use Prim.Native.Nat.{ℕ, zero, suc, _+_, _-_, _^_, _≤_, _<_}
+use mathlib.Core.Path.{_≡_, refl, sym, ap, ap₂, _∙_, subst}
+use mathlib.Core.List.{List, [], _∷_, _++_, append-assoc, append-nil}
+use mathlib.Core.Bool.{Bool, true, false, not, _&&_, _||_, and-comm, and-assoc}
+use native.Mathlib.Numerals.{add-one}
+use native.Mathlib.Omega.{arith}
+use lib.Dec.{eqb, leb, ltb}
+use lib.ListN.{length, getD, set, take}
+use lib.Seq.{take-suc-set}
+use borrow.Author.Tests.{eq-eqb, ne-eqb, eqb-true, eqb-false}
+use Rattle.language.specs.Values.{bitOf}
+use Rattle.value.specs.Masks.{bitMatches, matchesIn}
+use Rattle.value.specs.Masks.{matchesOf as Masks·matchesOf}
+use Rattle.value.proofs.Digits.{bit-lt}
+use Rattle.plan.specs.Layout.{memorySizeAt, cellsBefore, presentAt, absentAt, rulesBefore, groupAt}
+use Rattle.cycle.specs.Machine.{bitsAgree, matchesOf, matching, Fired, fired, unfired, firing, allBelow}
+use Rattle.cycle.specs.Fire.{answerOf, firedAt}
+
+pub below-next : (p : List ℕ) (n : ℕ) (f : ℕ → Bool) {a b : Bool} → a ≡ allBelow p n f → b ≡ f n → (a && b) ≡ allBelow p (n + 1) f
+unfolding allBelow
+below-next p n f d e = rw (add-one n) (ap₂ _&&_ d e)
+
+-- the cells of a memory are among those of the memories up to n
+pub cells-within : (p : List ℕ) (m n : ℕ) → m < n → cellsBefore p m + memorySizeAt p m ≤ cellsBefore p n
+unfolding cellsBefore
+cells-within p m zero h = absurd (omega arith)
+cells-within p m (suc n) h = go (eqb m n) refl (cells-within p m n)
+  where
+    go : (b : Bool) → eqb m n ≡ b → (m < n → cellsBefore p m + memorySizeAt p m ≤ cellsBefore p n) → cellsBefore p m + memorySizeAt p m ≤ cellsBefore p n + memorySizeAt p n
+    go true e r = rw (eqb-true m n e) (omega arith)
+    go false e r = let q = eqb-false m n e in let k = r (omega (arith, q)) in omega arith
+
+-- ---- a rule matches
+
+zero-or-one : (x : ℕ) → x < 2 → eqb x 0 ≡ not (eqb x 1)
+zero-or-one zero h = refl
+zero-or-one (suc zero) h = refl
+zero-or-one (suc (suc x)) h = absurd (omega arith)
+
+same-match : (m p a : ℕ) → p < 2 → a < 2 → ((eqb p 0 || eqb m 1) && (eqb a 0 || eqb m 0)) ≡ bitMatches m p a
+unfolding bitMatches
+same-match m p a h l = rw (zero-or-one p h, zero-or-one a l)
+
+agree : (p : List ℕ) (mask r k : ℕ) → matchesIn k mask (presentAt p r) (absentAt p r) ≡ bitsAgree p mask r k
+unfolding matchesIn bitsAgree
+agree p mask r zero = refl
+agree p mask r (suc k) =
+    ap₂ _&&_ (sym (same-match (bitOf mask k) (bitOf (presentAt p r) k) (bitOf (absentAt p r) k) (bit-lt (presentAt p r) k) (bit-lt (absentAt p r) k))) (agree p mask r k)
+    ∙ and-comm (((eqb (bitOf (presentAt p r) k) 0 || eqb (bitOf mask k) 1) && (eqb (bitOf (absentAt p r) k) 0 || eqb (bitOf mask k) 0))) (bitsAgree p mask r k)
+    ∙ sym (and-assoc (bitsAgree p mask r k) (eqb (bitOf (presentAt p r) k) 0 || eqb (bitOf mask k) 1) (eqb (bitOf (absentAt p r) k) 0 || eqb (bitOf mask k) 0))
+
+pub matches-agree : (p : List ℕ) (mask r : ℕ) → Masks·matchesOf mask (presentAt p r) (absentAt p r) ≡ matchesOf p mask r
+unfolding Masks·matchesOf matchesOf
+matches-agree p mask r = agree p mask r 32
+
+-- ---- the rules of a group that match, before and after those looked at
+
+unfoldable pub seen : ℕ → ℕ → List ℕ → List ℕ
+seen zero r l = l
+seen (suc k) r l = r ∷ l
+
+module _ (p : List ℕ) (mask first n i : ℕ) (h : i < n) where
+  left-over : suc (n - (i + 1)) ≡ n - i
+  left-over = omega arith
+
+  next-rule : suc (first + i) ≡ first + (i + 1)
+  next-rule = omega arith
+
+  pub match-yes : matchesOf p mask (first + i) ≡ true → matching p mask (first + i) (n - i) ≡ (first + i) ∷ matching p mask (first + (i + 1)) (n - (i + 1))
+  unfolding matching
+  match-yes e =
+      rw (← left-over)
+      (ap (λ (b : Bool). elim b [ true ↦ (first + i) ∷ matching p mask (suc (first + i)) (n - (i + 1)) | false ↦ matching p mask (suc (first + i)) (n - (i + 1)) ]) e ∙ rw next-rule)
+
+  pub match-no : matchesOf p mask (first + i) ≡ false → matching p mask (first + i) (n - i) ≡ matching p mask (first + (i + 1)) (n - (i + 1))
+  unfolding matching
+  match-no e =
+      rw (← left-over)
+      (ap (λ (b : Bool). elim b [ true ↦ (first + i) ∷ matching p mask (suc (first + i)) (n - (i + 1)) | false ↦ matching p mask (suc (first + i)) (n - (i + 1)) ]) e ∙ rw next-rule)
+
+  -- a first match, a second, none
+  pub seen-first : (rule found : ℕ) {l : List ℕ} → found ≤ 1 → (found ≡ 1 → ⊥) → l ≡ seen found rule (matching p mask (first + i) (n - i)) → matchesOf p mask (first + i) ≡ true
+      → l ≡ seen 1 (first + i) (matching p mask (first + (i + 1)) (n - (i + 1)))
+  unfolding seen
+  seen-first rule zero d z e m = e ∙ match-yes m
+  seen-first rule (suc zero) d z e m = absurd (z refl)
+  seen-first rule (suc (suc f)) d z e m = absurd (omega arith)
+
+  pub seen-second : (rule : ℕ) {found : ℕ} {l : List ℕ} → found ≡ 1 → l ≡ seen found rule (matching p mask (first + i) (n - i)) → matchesOf p mask (first + i) ≡ true → 24 ≡ answerOf l
+  unfolding seen
+  seen-second rule z e m = rw (e, z, match-yes m)
+
+  pub seen-none : (found rule : ℕ) {l : List ℕ} → l ≡ seen found rule (matching p mask (first + i) (n - i)) → matchesOf p mask (first + i) ≡ false
+      → l ≡ seen found rule (matching p mask (first + (i + 1)) (n - (i + 1)))
+  seen-none found rule e m = e ∙ ap (seen found rule) (match-no m)
+
+pub seen-end : (p : List ℕ) (mask first n i found rule : ℕ) {l : List ℕ} → n ≤ i → l ≡ seen found rule (matching p mask (first + i) (n - i)) → l ≡ seen found rule []
+unfolding matching
+seen-end p mask first n i found rule h e = let z : n - i ≡ 0 = omega arith in rw z at e
+
+pub one-found : (rule : ℕ) {found : ℕ} {l : List ℕ} → found ≡ 1 → l ≡ seen found rule [] → l ≡ rule ∷ []
+unfolding seen
+one-found rule z e = rw z at e
+
+pub none-found : (rule found : ℕ) {l : List ℕ} → found ≤ 1 → (found ≡ 1 → ⊥) → l ≡ seen found rule [] → l ≡ []
+unfolding seen
+none-found rule zero d z e = e
+none-found rule (suc zero) d z e = absurd (z refl)
+none-found rule (suc (suc f)) d z e = absurd (omega arith)
+
+-- ---- the groups
+
+unfoldable pub after : (p : List ℕ) → List ℕ → Fired p → Fired p
+after p l (fired k) = fired (l ++ k)
+after p l (unfired n) = unfired n
+
+after-more : (p l : List ℕ) (r : ℕ) (f : Fired p) → after p l (after p (r ∷ []) f) ≡ after p (l ++ (r ∷ [])) f
+unfolding after
+after-more p l r (fired k) = ap fired (sym (append-assoc l (r ∷ []) k))
+after-more p l r (unfired n) = refl
+
+after-none : (p : List ℕ) (f : Fired p) → after p [] f ≡ f
+unfolding after
+after-none p (fired k) = refl
+after-none p (unfired n) = refl
+
+abbrev one-of : (p l : List ℕ) (f : Fired p) → Fired p
+one-of p l f = elim l [ [] ↦ unfired 23 | r ∷ [] ↦ elim f [ fired k ↦ fired (r ∷ k) | unfired k ↦ unfired k ] | r ∷ q ∷ k ↦ unfired 24 ]
+
+module _ (p : List ℕ) (mask g n : ℕ) (h : g < n) where
+  groups-over : suc (n - (g + 1)) ≡ n - g
+  groups-over = omega arith
+
+  group-next : firing p mask g (n - g) ≡ one-of p (matching p mask (rulesBefore p g) (groupAt p g)) (firing p mask (g + 1) (n - (g + 1)))
+  unfolding firing
+  group-next = rw (← groups-over, add-one g)
+
+  one-after : (r : ℕ) (f : Fired p) → one-of p (r ∷ []) f ≡ after p (r ∷ []) f
+  unfolding after
+  one-after r (fired k) = refl
+  one-after r (unfired k) = refl
+
+  -- one rule of the group matches
+  pub fire-next : (l : List ℕ) (r : ℕ) {x : Fired p} → g < length l → x ≡ after p (take g l) (firing p mask g (n - g)) → matching p mask (rulesBefore p g) (groupAt p g) ≡ r ∷ []
+      → x ≡ after p (take (g + 1) (set l g r)) (firing p mask (g + 1) (n - (g + 1)))
+  fire-next l r k e m =
+      e ∙ ap (after p (take g l)) (group-next ∙ ap (λ (y : List ℕ). one-of p y (firing p mask (g + 1) (n - (g + 1)))) m ∙ one-after r (firing p mask (g + 1) (n - (g + 1))))
+      ∙ after-more p (take g l) r (firing p mask (g + 1) (n - (g + 1))) ∙ rw (add-one g, take-suc-set l g r k)
+
+  one-not : (l : List ℕ) (f : Fired p) → (answerOf l ≡ 0 → ⊥) → one-of p l f ≡ unfired (answerOf l)
+  one-not [] f z = refl
+  one-not (r ∷ []) f z = absurd (z refl)
+  one-not (r ∷ q ∷ l) f z = refl
+
+  -- none, or more than one
+  pub fire-stop : (l k : List ℕ) (a : ℕ) {x : Fired p} → x ≡ after p (take g l) (firing p mask g (n - g)) → a ≡ answerOf (matching p mask (rulesBefore p g) (groupAt p g)) → (a ≡ 0 → ⊥)
+      → firedAt p a k ≡ x
+  unfolding after firedAt
+  fire-stop l k a e m z =
+      ap (λ (b : Bool). elim b [ true ↦ fired k | false ↦ unfired a ]) (ne-eqb a 0 z)
+      ∙ sym (e ∙ ap (after p (take g l)) (group-next ∙ one-not (matching p mask (rulesBefore p g) (groupAt p g)) (firing p mask (g + 1) (n - (g + 1))) (λ y. z (m ∙ y)) ∙ ap unfired (sym m)))
+
+pub fire-end : (p : List ℕ) (mask g n : ℕ) (l : List ℕ) {x : Fired p} → n ≤ g → g ≤ n → x ≡ after p (take g l) (firing p mask g (n - g)) → firedAt p 0 (take n l) ≡ x
+unfolding firing firedAt after
+fire-end p mask g n l h j e = let z : n - g ≡ 0 = omega arith in let y : g ≡ n = omega arith in sym (rw (z, y) at e ∙ ap fired (append-nil (take n l)))
+
+pub fire-start : (p : List ℕ) (mask n : ℕ) (l : List ℕ) → firing p mask 0 n ≡ after p (take 0 l) (firing p mask 0 (n - 0))
+fire-start p mask n l = let e : n - 0 ≡ n = omega arith in rw e (sym (after-none p (firing p mask 0 n)))

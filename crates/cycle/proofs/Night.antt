@@ -1,0 +1,147 @@
+-- A run, cycle by cycle, on lists. Assumes nothing.
+use Prim.Native.Nat.{ℕ, zero, suc, _+_, _-_, _*_, _/_, _%_, _≤_, _<_}
+use mathlib.Core.Path.{_≡_, refl, sym, ap, ap₂, _∙_, subst}
+use mathlib.Core.List.{List, [], _∷_, _++_, append-nil, append-assoc}
+use mathlib.Core.Bool.{Bool, true, false, _&&_}
+use native.Mathlib.Numerals.{add-one}
+use native.Mathlib.Nat.{mul-le-mul-right, suc-mul, div-add-mod', mul-mod-left, mul-div-cancel}
+use native.Mathlib.Omega.{arith}
+use lib.Dec.{eqb, leb}
+use lib.ListN.{length, getD, set, take, drop, length-set, drop-of-length-le}
+use lib.Seq.{paste, take-paste, drop-paste, take-all, drop-cons, drop-drop, take-suc-set, lt-length-set}
+use borrow.Author.Tests.{leb-true, eqb-true, eqb-false, eq-eqb, ne-eqb}
+use Rattle.language.specs.Meaning.{Outcome}
+use Rattle.plan.specs.Layout.{form, portCount, memoryCount, cellsBefore}
+use Rattle.plan.specs.Sound.{soundOf, sectionsOk, allUpTo, portOk}
+use Rattle.plan.specs.Steps.{portsPart, memoriesPart, groupsPart, rulesPart}
+use Rattle.plan.proofs.Parts.{sections-parts}
+use Rattle.plan.proofs.Laws.{and-left, and-right}
+use Rattle.cycle.specs.Machine.{soundCycle, cycleOf}
+use Rattle.cycle.specs.Turn.{Turned}
+use Rattle.cycle.specs.Run.{Result, result, before, turnsOf, tablesFit, runOf}
+use Rattle.cycle.proofs.Outcomes.{cycle-sound}
+
+-- k cycles are over: what they left, and what those after them will leave
+pub record Runs (p masks values memory₀ outputs₀ : List ℕ) (k at : ℕ) (memory outputs answers : List ℕ) : Type 0 where
+  pub cells : turnsOf p masks values memory₀ outputs₀ .memory ≡ turnsOf p (drop k masks) (drop at values) memory (drop at outputs₀) .memory
+  pub slots : turnsOf p masks values memory₀ outputs₀ .outputs ≡ take at outputs ++ turnsOf p (drop k masks) (drop at values) memory (drop at outputs₀) .outputs
+  pub told : turnsOf p masks values memory₀ outputs₀ .answers ≡ take (k * 2) answers ++ turnsOf p (drop k masks) (drop at values) memory (drop at outputs₀) .answers
+  pub ended : turnsOf p masks values memory₀ outputs₀ .answer ≡ turnsOf p (drop k masks) (drop at values) memory (drop at outputs₀) .answer
+  pub later : drop at outputs ≡ drop at outputs₀
+
+pub runs-start : (p masks values memory outputs answers : List ℕ) → Runs p masks values memory outputs 0 0 memory outputs answers
+runs-start p masks values memory outputs answers = record { cells = refl; slots = refl; told = refl; ended = refl; later = refl }
+
+pub next-fits : (k n l at : ℕ) → at ≡ k * n → k < l → at + n ≤ l * n
+next-fits k n l at e h = let m : suc k * n ≤ l * n = mul-le-mul-right n h in omega (arith, suc-mul k n)
+
+pub next-at : (k n at : ℕ) → at ≡ k * n → at + n ≡ (k + 1) * n
+next-at k n at e = rw (add-one k, suc-mul k n) (omega arith)
+
+two-set : (l : List ℕ) (i a c : ℕ) → i + 1 < length l → take (i + 2) (set (set l i a) (i + 1) c) ≡ take i l ++ (a ∷ c ∷ [])
+two-set l i a c h =
+    let e : i + 2 ≡ suc (i + 1) = omega arith in
+    rw (e, take-suc-set (set l i a) (i + 1) c (lt-length-set l i a h), add-one i, take-suc-set l i a (omega arith)) (append-assoc (take i l) (a ∷ []) (c ∷ []))
+
+module _ (p masks values memory₀ outputs₀ : List ℕ) (k at : ℕ) (memory outputs answers : List ℕ) (hs : soundOf p ≡ true) (h : k < length masks)
+    (r : Runs p masks values memory₀ outputs₀ k at memory outputs answers) where
+  abbrev o : Outcome
+  o = soundCycle p (getD masks k 0) (take (portCount p) (drop at values)) memory (take (portCount p) (drop at outputs))
+
+  same-outcome : cycleOf p (getD masks k 0) (take (portCount p) (drop at values)) memory (take (portCount p) (drop at outputs₀)) ≡ o
+  same-outcome = cycle-sound p (getD masks k 0) (take (portCount p) (drop at values)) memory (take (portCount p) (drop at outputs₀)) hs ∙ rw (← (r .later))
+
+  -- the next cycle, and those after it
+  one-more : (m : List ℕ) → m ≡ o .memory → turnsOf p (drop k masks) (drop at values) memory (drop at outputs₀)
+      ≡ before o (turnsOf p (drop (k + 1) masks) (drop (at + portCount p) values) m (drop (at + portCount p) outputs₀))
+  unfolding turnsOf
+  one-more m e =
+      rw (drop-cons masks k 0 h, add-one k, e, ← drop-drop (portCount p) at values, ← drop-drop (portCount p) at outputs₀)
+      (ap (λ (x : Outcome). before x (turnsOf p (drop (suc k) masks) (drop (portCount p) (drop at values)) (x .memory) (drop (portCount p) (drop at outputs₀)))) same-outcome)
+
+  pub runs-next : {answer count : ℕ} {m t : List ℕ} → at + portCount p ≤ length outputs → k * 2 + 1 < length answers → Turned o answer count m t outputs at (portCount p)
+      → Runs p masks values memory₀ outputs₀ (k + 1) (at + portCount p) m t (set (set answers (k * 2) answer) (k * 2 + 1) count)
+  unfolding before
+  runs-next {answer} {count} {m} {t} l j u =
+      let q = one-more m (u .cells) in
+      let w : at ≤ length outputs = omega arith in
+      let y : portCount p ≤ length (o .outputs) = omega (arith, u .long) in
+      let z : length (o .outputs) ≤ portCount p = omega (arith, u .long) in
+      let a : take (at + portCount p) t ≡ take at outputs ++ o .outputs = ap (take (at + portCount p)) (u .slots) ∙ take-paste outputs at (o .outputs) (portCount p) w y ∙ rw (take-all (portCount p) (o .outputs) z) in
+      let b : take ((k + 1) * 2) (set (set answers (k * 2) answer) (k * 2 + 1) count) ≡ take (k * 2) answers ++ (o .answer ∷ o .count ∷ []) =
+      let e : (k + 1) * 2 ≡ k * 2 + 2 = omega arith in rw e (two-set answers (k * 2) answer count j ∙ rw (u .answers, u .counts)) in
+      record {
+        cells = r .cells ∙ ap (λ (x : Result). x .memory) q;
+        slots = r .slots ∙ ap (λ (x : Result). take at outputs ++ x .outputs) q ∙ sym (append-assoc (take at outputs) (o .outputs) _) ∙ rw a;
+        told = r .told ∙ ap (λ (x : Result). take (k * 2) answers ++ x .answers) q ∙ sym (append-assoc (take (k * 2) answers) (o .answer ∷ o .count ∷ []) _) ∙ rw b;
+        ended = r .ended ∙ ap (λ (x : Result). x .answer) q;
+        later =
+            ap (drop (at + portCount p)) (u .slots) ∙ drop-paste outputs at (o .outputs) (portCount p) w y
+            ∙ sym (drop-drop (portCount p) at outputs) ∙ ap (drop (portCount p)) (r .later) ∙ drop-drop (portCount p) at outputs₀;
+      }
+
+none-left : (p masks values memory outputs : List ℕ) → masks ≡ [] → turnsOf p masks values memory outputs ≡ result 0 memory [] []
+unfolding turnsOf
+none-left p masks values memory outputs e = rw e
+
+pub runs-end : (p masks values memory₀ outputs₀ : List ℕ) (k at : ℕ) (memory outputs answers : List ℕ) → length masks ≤ k → length outputs ≤ at → length answers ≤ k * 2
+    → Runs p masks values memory₀ outputs₀ k at memory outputs answers → result 0 memory outputs answers ≡ turnsOf p masks values memory₀ outputs₀
+runs-end p masks values memory₀ outputs₀ k at memory outputs answers h l j r =
+    let e = ends-so in
+    let a : turnsOf p masks values memory₀ outputs₀ .outputs ≡ outputs = r .slots ∙ ap (λ (x : Result). take at outputs ++ x .outputs) e ∙ append-nil (take at outputs) ∙ take-all at outputs l in
+    let b : turnsOf p masks values memory₀ outputs₀ .answers ≡ answers = r .told ∙ ap (λ (x : Result). take (k * 2) answers ++ x .answers) e ∙ append-nil (take (k * 2) answers) ∙ take-all (k * 2) answers j in
+    let c : turnsOf p masks values memory₀ outputs₀ .memory ≡ memory = r .cells ∙ ap (λ (x : Result). x .memory) e in
+    let d : turnsOf p masks values memory₀ outputs₀ .answer ≡ 0 = r .ended ∙ ap (λ (x : Result). x .answer) e in
+    rw (← a, ← b, ← c, ← d)
+  where
+    ends-so : turnsOf p (drop k masks) (drop at values) memory (drop at outputs₀) ≡ result 0 memory [] []
+    ends-so = none-left p (drop k masks) (drop at values) memory (drop at outputs₀) (drop-of-length-le masks h)
+
+-- ---- the tests of a run
+
+pub times : (len n k : ℕ) → 1 ≤ n → (eqb (len / n) k && eqb (len % n) 0) ≡ eqb len (k * n)
+times len n k h = go (eqb (len / n) k) refl (eqb (len % n) 0) refl
+  where
+    go : (a : Bool) → eqb (len / n) k ≡ a → (b : Bool) → eqb (len % n) 0 ≡ b → (a && b) ≡ eqb len (k * n)
+    go true d true e = sym (eq-eqb len (k * n) (sym (div-add-mod' len n) ∙ rw (eqb-true (len / n) k d, eqb-true (len % n) 0 e) (omega arith)))
+    go true d false e = sym (ne-eqb len (k * n) (λ z. eqb-false (len % n) 0 e (rw z (mul-mod-left k n))))
+    go false d b e = sym (ne-eqb len (k * n) (λ z. eqb-false (len / n) k d (rw z (mul-div-cancel k h))))
+
+module _ (p masks values memory outputs answers : List ℕ) where
+  by-tables : Bool → Result
+  by-tables b = elim b [ false ↦ result 21 memory outputs answers | true ↦ turnsOf p masks values memory outputs ]
+
+  by-plan : Bool → Result
+  by-plan b = elim b [ false ↦ result 20 memory outputs answers | true ↦ by-tables (tablesFit p masks values memory outputs answers) ]
+
+  pub run-20 : soundOf p ≡ false → runOf p masks values memory outputs answers ≡ result 20 memory outputs answers
+  unfolding runOf by-plan by-tables
+  run-20 h = ap by-plan h
+
+  pub run-21 : soundOf p ≡ true → tablesFit p masks values memory outputs answers ≡ false → runOf p masks values memory outputs answers ≡ result 21 memory outputs answers
+  unfolding runOf by-plan by-tables
+  run-21 h k = ap by-plan h ∙ ap by-tables k
+
+  pub run-0 : soundOf p ≡ true → tablesFit p masks values memory outputs answers ≡ true → runOf p masks values memory outputs answers ≡ turnsOf p masks values memory outputs
+  unfolding runOf by-plan by-tables
+  run-0 h k = ap by-plan h ∙ ap by-tables k
+
+  pub tables-told : tablesFit p masks values memory outputs answers ≡ true
+      → (length values ≡ length masks * portCount p) × (length outputs ≡ length masks * portCount p) × (length answers ≡ length masks * 2) × (length memory ≡ cellsBefore p (memoryCount p))
+  unfolding tablesFit
+  tables-told h =
+      let a = and-left (eqb (length values) (length masks * portCount p) && eqb (length outputs) (length masks * portCount p) && eqb (length answers) (length masks * 2)) (eqb (length memory) (cellsBefore p (memoryCount p))) h in
+      let b = and-left (eqb (length values) (length masks * portCount p) && eqb (length outputs) (length masks * portCount p)) (eqb (length answers) (length masks * 2)) a in (
+        eqb-true (length values) (length masks * portCount p) (and-left (eqb (length values) (length masks * portCount p)) (eqb (length outputs) (length masks * portCount p)) b),
+        eqb-true (length outputs) (length masks * portCount p) (and-right (eqb (length values) (length masks * portCount p)) (eqb (length outputs) (length masks * portCount p)) b),
+        eqb-true (length answers) (length masks * 2) (and-right (eqb (length values) (length masks * portCount p) && eqb (length outputs) (length masks * portCount p)) (eqb (length answers) (length masks * 2)) a),
+        eqb-true (length memory) (cellsBefore p (memoryCount p)) (and-right (eqb (length values) (length masks * portCount p) && eqb (length outputs) (length masks * portCount p) && eqb (length answers) (length masks * 2)) (eqb (length memory) (cellsBefore p (memoryCount p))) h),
+      )
+
+pub ports-some : (p : List ℕ) → sectionsOk p ≡ true → 1 ≤ portCount p
+unfolding portsPart
+ports-some p h =
+    leb-true 1 (portCount p) (and-right (eqb (form p) 1) (leb 1 (portCount p))
+    (and-left (eqb (form p) 1 && leb 1 (portCount p)) (leb (portCount p) 16)
+    (and-left (eqb (form p) 1 && leb 1 (portCount p) && leb (portCount p) 16) (allUpTo p (portCount p) (portOk p))
+    (and-left (portsPart p) (memoriesPart p && (groupsPart p && rulesPart p)) (sym (sections-parts p) ∙ h)))))

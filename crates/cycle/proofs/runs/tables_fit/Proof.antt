@@ -1,0 +1,45 @@
+-- `tables_fit` meets its contract. Assumes nothing.
+use Prim.Native.Nat.{ℕ, zero, suc, _+_, _-_, _*_, _/_, _%_, _^_, _≤_, _<_, max}
+use mathlib.Core.Path.{_≡_, refl, sym, ap, ap₂, _∙_, subst}
+use mathlib.Core.Bool.{Bool, true, false}
+use mathlib.Core.List.{List, [], _∷_}
+use lib.ListN.{length, getD, set, take, drop}
+use borrow.Author.Tests.{le-ltb, lt-ltb, le-leb, lt-leb, eq-eqb, ne-eqb}
+use lib.ListN.{length-take, length-drop, length-set}
+use Rattle.plan.specs.Layout.{portCount, memoryCount, cellsBefore}
+use Rattle.cycle.specs.Turn.{Turned, Tables}
+use Rattle.cycle.specs.Run.{result, turnsOf, tablesFit, runOf}
+use Rattle.cycle.proofs.Night.{Runs, runs-start, next-fits, next-at, runs-next, runs-end, times, run-20, run-21, run-0, tables-told}
+use borrow.Author.Needs.{needs}
+use Rattle.cycle.proofs.runs.tables_fit.Statement.{statement}
+use Rattle.cycle.proofs.runs.tables_fit.Tie as tie
+
+port-count-requires : tie.Need-port-count-requires
+port-count-requires c κs = search needs
+
+place-requires : tie.Need-place-requires
+place-requires c κs = search needs
+
+memory-count-requires : tie.Need-memory-count-requires
+memory-count-requires c κs = search needs
+
+cells-before-requires : tie.Need-cells-before-requires
+cells-before-requires c κs = search needs
+
+times-requires : tie.Need-times-requires
+times-requires c κs = search needs
+
+times-requires-2 : tie.Need-times-requires-2
+times-requires-2 c κs = search needs
+
+times-requires-3 : tie.Need-times-requires-3
+times-requires-3 c κs = search needs
+
+returns : tie.Need-returns
+unfolding tablesFit
+returns c = simp (c .before .before .times .ensures, c .before .times2 .ensures, c .times3 .ensures, c .before .before .before .before .before .place .ensures .0, c .before .before .before .before .before .before .port-count .ensures, c .before .before .before .cells-before .ensures .0, c .before .before .before .before .memory-count .ensures)
+
+pub tables-fit-spec : {M : Type 1} → statement M
+tables-fit-spec =
+    tie.close (tie.spec port-count-requires place-requires memory-count-requires cells-before-requires times-requires times-requires-2
+    times-requires-3 returns)

@@ -1,0 +1,43 @@
+-- A run of cycles, each with its own mask, values and output slots, and the memory that the one before left. Assumes nothing: these are definitions.
+use mathlib.Core.Bool.{Bool, true, false, _&&_}
+use mathlib.Core.List.{List, [], _∷_, _++_}
+use Prim.Native.Nat.{ℕ, _*_}
+use lib.Dec.{eqb}
+use lib.ListN.{length, take, drop}
+use Rattle.language.specs.Meaning.{Outcome}
+use Rattle.plan.specs.Layout.{portCount, memoryCount, cellsBefore}
+use Rattle.plan.specs.Sound.{soundOf}
+use Rattle.cycle.specs.Machine.{cycleOf}
+
+-- the answer of a run, the memory it leaves, the output slots and the two numbers of each cycle
+pub record Result : Type 0 where
+  pub answer : ℕ
+  pub memory : List ℕ
+  pub outputs : List ℕ
+  pub answers : List ℕ
+
+abbrev pub result : ℕ → List ℕ → List ℕ → List ℕ → Result
+result a memory outputs answers = record { answer = a; memory = memory; outputs = outputs; answers = answers }
+
+-- a cycle before the others
+unfoldable pub before : Outcome → Result → Result
+before o r = result (r .answer) (r .memory) (o .outputs ++ r .outputs) (o .answer ∷ o .count ∷ r .answers)
+
+unfoldable pub turnsOf : List ℕ → List ℕ → List ℕ → List ℕ → List ℕ → Result
+turnsOf p [] values memory outputs = result 0 memory [] []
+turnsOf p (m ∷ ms) values memory outputs =
+    before (cycleOf p m (take (portCount p) values) memory (take (portCount p) outputs))
+    (turnsOf p ms (drop (portCount p) values) (cycleOf p m (take (portCount p) values) memory (take (portCount p) outputs) .memory) (drop (portCount p) outputs))
+
+-- a value and an output slot for each port, and two numbers, for each mask
+unfoldable pub tablesFit : List ℕ → List ℕ → List ℕ → List ℕ → List ℕ → List ℕ → Bool
+tablesFit p masks values memory outputs answers =
+    eqb (length values) (length masks * portCount p) && eqb (length outputs) (length masks * portCount p) && eqb (length answers) (length masks * 2)
+    && eqb (length memory) (cellsBefore p (memoryCount p))
+
+unfoldable pub runOf : List ℕ → List ℕ → List ℕ → List ℕ → List ℕ → List ℕ → Result
+runOf p masks values memory outputs answers =
+    elim (soundOf p) [
+      | false ↦ result 20 memory outputs answers
+      | true ↦ elim (tablesFit p masks values memory outputs answers) [ false ↦ result 21 memory outputs answers | true ↦ turnsOf p masks values memory outputs ]
+    ]

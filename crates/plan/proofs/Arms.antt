@@ -1,0 +1,32 @@
+-- What the last arm of a `match` on an item knows: that the item is none of those named before. Assumes nothing.
+use mathlib.Core.Path.{_≡_, refl}
+use mathlib.Core.Bool.{Bool, true, false}
+use mathlib.Core.List.{List, [], _∷_}
+use Prim.Native.Nat.{ℕ}
+use types.Run.{OneOf, miss}
+use denote.Enum.Declared.{tagOf}
+use Rattle.plan.proofs.Item as item
+use Rattle.plan.specs.declared.Item.{Item}
+use Rattle.plan.specs.declared.Item.the-variants.{Const, Port, Let, Cell, Range, Copies, Beside, Before, Between, Choice, Arm, Keep, Assign, Write, Bad}
+use Rattle.plan.specs.Steps.{actsOf}
+
+abbrev leaving : List ℕ
+leaving = 0 ∷ 1 ∷ 2 ∷ 3 ∷ 4 ∷ 5 ∷ 6 ∷ 7 ∷ 8 ∷ 9 ∷ 10 ∷ 14 ∷ []
+
+-- all but Keep, Assign and Write
+pub leaves : (i : Item) → OneOf leaving (tagOf item.the-type i) → actsOf i ≡ false
+leaves (Const w lo hi) h = refl
+leaves (Port i) h = refl
+leaves (Let k) h = refl
+leaves (Cell m f n) h = refl
+leaves (Range i j) h = refl
+leaves (Copies n w) h = refl
+leaves (Beside w) h = refl
+leaves (Before u w) h = refl
+leaves (Between o m n) h = refl
+leaves Choice h = refl
+leaves (Arm n k) h = refl
+leaves (Keep k w) h = absurd (miss leaving 11 tt h)
+leaves (Assign p) h = absurd (miss leaving 12 tt h)
+leaves (Write m f n) h = absurd (miss leaving 13 tt h)
+leaves Bad h = refl

@@ -1,0 +1,6 @@
+pub mod Arms
+pub mod Laws
+pub mod Lists
+pub mod Parts
+pub mod Turns
+pub mod Waits

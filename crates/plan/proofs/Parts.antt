@@ -1,0 +1,215 @@
+-- The sections' tests, on lists. Assumes nothing.
+use Prim.Native.Nat.{ℕ, zero, suc, _+_, _-_, _*_, _%_, _^_, _≤_, _<_}
+use mathlib.Core.Path.{_≡_, refl, sym, ap, ap₂, _∙_}
+use mathlib.Core.List.{List, [], _∷_}
+use mathlib.Core.Bool.{Bool, true, false, _&&_, and-assoc}
+use native.Mathlib.Numerals.{add-one}
+use native.Mathlib.Omega.{arith}
+use lib.ListN.{length, getD}
+use lib.Dec.{eqb, leb, ltb}
+use native.Mathlib.Nat.{mul-le-mul}
+use native.Mathlib.Decide.{decLt}
+use borrow.Author.Tests.{leb-true, eqb-true, lt-ltb, le-ltb}
+use Rattle.language.specs.Values.{bitOf, orOf}
+use Rattle.value.proofs.Digits.{bit-lt}
+use Rattle.plan.specs.Layout.{form, portCount, portAt, memoryCount, groupCount, groupAt, rulesBefore, ruleCount, presentAt, absentAt, lengthAt, codeBefore, codeFrom, codeCount}
+use Rattle.plan.specs.Sound.{allUpTo, apart, portOk, memoryFits, groupOk, ruleOk, sectionsOk, Ended, ended, unended, ruleCheck, joined, groupCheck, groupsCheck, soundOf}
+use Rattle.plan.specs.Steps.{endAt, portsPart, memoriesPart, groupsPart, rulesPart}
+use Rattle.plan.proofs.Laws.{and-left, and-right}
+
+pub all-next : (p : List ℕ) (n : ℕ) (f : ℕ → Bool) {a b : Bool} → a ≡ allUpTo p n f → b ≡ f n → (a && b) ≡ allUpTo p (n + 1) f
+unfolding allUpTo
+all-next p n f d e = rw (add-one n) (ap₂ _&&_ d e)
+
+pub apart-next : (p : List ℕ) (a b k : ℕ) {c : Bool} {x y : ℕ} → c ≡ apart p a b k → x ≡ bitOf a k → y ≡ bitOf b k → (c && eqb (x * y) 0) ≡ apart p a b (k + 1)
+unfolding apart
+apart-next p a b k c d e = rw (add-one k) (rw (c, d, e))
+
+pub sections-parts : (p : List ℕ) → sectionsOk p ≡ (portsPart p && (memoriesPart p && (groupsPart p && rulesPart p)))
+unfolding sectionsOk portsPart memoriesPart groupsPart rulesPart
+sections-parts p = simp and-assoc
+
+pub bits-small : (a b k l : ℕ) {x y : ℕ} → x ≡ bitOf a k → y ≡ bitOf b l → x * y ≤ 1
+bits-small a b k l {x} {y} d e = let h : x ≤ 1 = rw d (bit-most a k) in let j : y ≤ 1 = rw e (bit-most b l) in mul-le-mul h j
+  where
+    bit-most : (a k : ℕ) → bitOf a k ≤ 1
+    bit-most a k = let h = bit-lt a k in omega arith
+
+-- ---- what the sections of a sound plan hold
+
+all-at : (p : List ℕ) (n : ℕ) (f : ℕ → Bool) (k : ℕ) → allUpTo p n f ≡ true → k < n → f k ≡ true
+unfolding allUpTo
+all-at p zero f k h l = absurd (omega arith)
+all-at p (suc n) f k h l = go (all-at p n f k (and-left (allUpTo p n f) (f n) h)) (decLt k n)
+  where
+    go : (k < n → f k ≡ true) → Dec (k < n) → f k ≡ true
+    go r (yes j) = r j
+    go r (no j) = let e : k ≡ n = omega arith in rw e (and-right (allUpTo p n f) (f n) h)
+
+last-two : (a b c d e f : Bool) → (a && b && c && d && e && f) ≡ true → (e ≡ true) × (f ≡ true)
+last-two a b c d e f h = (and-right (a && b && c && d) e (and-left (a && b && c && d && e) f h), and-right (a && b && c && d && e) f h)
+
+module _ (p : List ℕ) (h : sectionsOk p ≡ true) where
+  all-parts : (portsPart p && (memoriesPart p && (groupsPart p && rulesPart p))) ≡ true
+  all-parts = sym (sections-parts p) ∙ h
+
+  ports-part : portsPart p ≡ true
+  ports-part = and-left (portsPart p) _ all-parts
+
+  memories-part : memoriesPart p ≡ true
+  memories-part = and-left (memoriesPart p) _ (and-right (portsPart p) _ all-parts)
+
+  groups-part : groupsPart p ≡ true
+  groups-part = and-left (groupsPart p) (rulesPart p) (and-right (memoriesPart p) _ (and-right (portsPart p) _ all-parts))
+
+  rules-part : rulesPart p ≡ true
+  rules-part = and-right (groupsPart p) (rulesPart p) (and-right (memoriesPart p) _ (and-right (portsPart p) _ all-parts))
+
+  pub ports-few : portCount p ≤ 16
+  unfolding portsPart
+  ports-few = leb-true (portCount p) 16 (and-right (eqb (form p) 1 && leb 1 (portCount p)) _ (and-left (eqb (form p) 1 && leb 1 (portCount p) && leb (portCount p) 16) (allUpTo p (portCount p) (portOk p)) ports-part))
+
+  pub port-fits : (i : ℕ) → i < portCount p → portOk p i ≡ true
+  unfolding portsPart
+  port-fits i l = all-at p (portCount p) (portOk p) i (and-right (eqb (form p) 1 && leb 1 (portCount p) && leb (portCount p) 16) (allUpTo p (portCount p) (portOk p)) ports-part) l
+
+  pub memories-few : memoryCount p ≤ 8
+  unfolding memoriesPart
+  memories-few = leb-true (memoryCount p) 8 (and-left (leb (memoryCount p) 8) (allUpTo p (memoryCount p) (memoryFits p)) memories-part)
+
+  pub memory-fits : (m : ℕ) → m < memoryCount p → memoryFits p m ≡ true
+  unfolding memoriesPart
+  memory-fits m l = all-at p (memoryCount p) (memoryFits p) m (and-right (leb (memoryCount p) 8) (allUpTo p (memoryCount p) (memoryFits p)) memories-part) l
+
+  abbrev group-counts : Bool
+  group-counts = leb 1 (groupCount p) && leb (groupCount p) 8 && leb (ruleCount p) 32
+
+  abbrev group-sums : Bool
+  group-sums = allUpTo p (groupCount p) (groupOk p) && eqb (rulesBefore p (groupCount p)) (ruleCount p)
+
+  pub groups-few : groupCount p ≤ 8
+  unfolding groupsPart
+  groups-few = leb-true (groupCount p) 8 (and-right (leb 1 (groupCount p)) _ (and-left (leb 1 (groupCount p) && leb (groupCount p) 8) (leb (ruleCount p) 32) (and-left group-counts group-sums groups-part)))
+
+  pub rules-few : ruleCount p ≤ 32
+  unfolding groupsPart
+  rules-few = leb-true (ruleCount p) 32 (and-right (leb 1 (groupCount p) && leb (groupCount p) 8) (leb (ruleCount p) 32) (and-left group-counts group-sums groups-part))
+
+  pub group-rules : (g : ℕ) → g < groupCount p → rulesBefore p g + groupAt p g ≤ ruleCount p
+  unfolding groupsPart groupOk rulesBefore
+  group-rules g l =
+      let k = all-at p (groupCount p) (groupOk p) g (and-left (allUpTo p (groupCount p) (groupOk p)) _ (and-right group-counts group-sums groups-part)) l in
+      leb-true (rulesBefore p g + groupAt p g) (ruleCount p) (and-right (leb 1 (groupAt p g)) _ k)
+
+  pub rule-test : (r : ℕ) → r < ruleCount p → ruleOk p r ≡ true
+  unfolding rulesPart
+  rule-test r l =
+      all-at p (ruleCount p) (ruleOk p) r
+      (and-left (allUpTo p (ruleCount p) (ruleOk p)) (eqb (codeBefore p (ruleCount p)) (codeCount p))
+      (and-left (allUpTo p (ruleCount p) (ruleOk p) && eqb (codeBefore p (ruleCount p)) (codeCount p)) (eqb (length p) (codeFrom p + 1 + codeCount p)) rules-part)) l
+
+  code-end : length p ≡ codeFrom p + 1 + codeCount p
+  unfolding rulesPart
+  code-end =
+      eqb-true (length p) (codeFrom p + 1 + codeCount p)
+      (and-right (allUpTo p (ruleCount p) (ruleOk p) && eqb (codeBefore p (ruleCount p)) (codeCount p)) (eqb (length p) (codeFrom p + 1 + codeCount p)) rules-part)
+
+  last-tests : (r : ℕ) → r < ruleCount p → (eqb (lengthAt p r % 4) 0 ≡ true) × (leb (codeBefore p r + lengthAt p r) (codeCount p) ≡ true)
+  unfolding ruleOk codeBefore
+  last-tests r l =
+      last-two (ltb (presentAt p r) (2 ^ portCount p)) (ltb (absentAt p r) (2 ^ portCount p)) (apart p (presentAt p r) (absentAt p r) (portCount p)) (ltb 0 (presentAt p r + absentAt p r))
+      (eqb (lengthAt p r % 4) 0) (leb (codeBefore p r + lengthAt p r) (codeCount p)) (rule-test r l)
+
+  pub rule-whole : (r : ℕ) → r < ruleCount p → lengthAt p r % 4 ≡ 0
+  rule-whole r l = eqb-true (lengthAt p r % 4) 0 (last-tests r l .0)
+
+  pub rule-inside : (r : ℕ) → r < ruleCount p → codeFrom p + 1 + codeBefore p r + lengthAt p r ≤ length p
+  rule-inside r l =
+      let k = leb-true (codeBefore p r + lengthAt p r) (codeCount p) (last-tests r l .1) in
+      let e = code-end in omega arith
+
+-- ---- groups and rules in turn
+
+pub end-at : (d : ℕ) → d < 65536 → endAt d ≡ ended d
+unfolding endAt
+end-at d h = ap (λ (b : Bool). elim b [ true ↦ ended d | false ↦ unended ]) (lt-ltb d 65536 h)
+
+pub end-past : (d : ℕ) → 65536 ≤ d → endAt d ≡ unended
+unfolding endAt
+end-past d h = ap (λ (b : Bool). elim b [ true ↦ ended d | false ↦ unended ]) (le-ltb d 65536 h)
+
+module _ (p : List ℕ) (taken mine r count i d : ℕ) (l : i < count) where
+  abbrev left-over : suc (count - (i + 1)) ≡ count - i
+  left-over = omega arith
+
+  pub group-turn : endAt d ≡ ruleCheck p taken (r + i) → d < 65536 → groupCheck p taken mine (r + i) (count - i) ≡ groupCheck p taken (orOf 16 mine d) (r + (i + 1)) (count - (i + 1))
+  unfolding groupCheck joined
+  group-turn e h =
+      let q : suc (r + i) ≡ r + (i + 1) = omega arith in
+      rw (← left-over) (ap (λ (x : Ended). elim x [ ended y ↦ groupCheck p taken (orOf 16 mine y) (suc (r + i)) (count - (i + 1)) | unended ↦ unended ]) (sym e ∙ end-at d h) ∙ rw q)
+
+  pub group-stop : endAt d ≡ ruleCheck p taken (r + i) → 65536 ≤ d → groupCheck p taken mine (r + i) (count - i) ≡ unended
+  unfolding groupCheck joined
+  group-stop e h =
+      rw (← left-over) (ap (λ (x : Ended). elim x [ ended y ↦ groupCheck p taken (orOf 16 mine y) (suc (r + i)) (count - (i + 1)) | unended ↦ unended ]) (sym e ∙ end-past d h))
+
+pub group-done : (p : List ℕ) (taken mine r count i : ℕ) → count ≤ i → groupCheck p taken mine r (count - i) ≡ ended mine
+unfolding groupCheck
+group-done p taken mine r count i h = let e : count - i ≡ 0 = omega arith in rw e
+
+module _ (p : List ℕ) (taken g n d : ℕ) (l : g < n) where
+  abbrev groups-over : suc (n - (g + 1)) ≡ n - g
+  groups-over = omega arith
+
+  pub groups-turn : endAt d ≡ groupCheck p taken taken (rulesBefore p g) (groupAt p g) → d < 65536 → groupsCheck p taken g (n - g) ≡ groupsCheck p d (g + 1) (n - (g + 1))
+  unfolding groupsCheck
+  groups-turn e h =
+      let q : suc g ≡ g + 1 = omega arith in
+      rw (← groups-over) (ap (λ (x : Ended). elim x [ ended y ↦ groupsCheck p y (suc g) (n - (g + 1)) | unended ↦ false ]) (sym e ∙ end-at d h) ∙ rw q)
+
+  pub groups-stop : endAt d ≡ groupCheck p taken taken (rulesBefore p g) (groupAt p g) → 65536 ≤ d → groupsCheck p taken g (n - g) ≡ false
+  unfolding groupsCheck
+  groups-stop e h =
+      rw (← groups-over) (ap (λ (x : Ended). elim x [ ended y ↦ groupsCheck p y (suc g) (n - (g + 1)) | unended ↦ false ]) (sym e ∙ end-past d h))
+
+pub groups-done : (p : List ℕ) (taken g n : ℕ) → n ≤ g → groupsCheck p taken g (n - g) ≡ true
+unfolding groupsCheck
+groups-done p taken g n h = let e : n - g ≡ 0 = omega arith in rw e
+
+-- ---- the sections in turn
+
+module _ (p : List ℕ) {a : Bool} (ea : a ≡ portsPart p) where
+  pub ports-not : a ≡ false → false ≡ sectionsOk p
+  ports-not h = sym (sections-parts p ∙ ap (λ (x : Bool). x && (memoriesPart p && (groupsPart p && rulesPart p))) (sym ea ∙ h))
+
+  module _ {b : Bool} (ha : a ≡ true) (eb : b ≡ memoriesPart p) where
+    from-memories : sectionsOk p ≡ (memoriesPart p && (groupsPart p && rulesPart p))
+    from-memories = sections-parts p ∙ ap (λ (x : Bool). x && (memoriesPart p && (groupsPart p && rulesPart p))) (sym ea ∙ ha)
+
+    pub memories-not : b ≡ false → false ≡ sectionsOk p
+    memories-not h = sym (from-memories ∙ ap (λ (x : Bool). x && (groupsPart p && rulesPart p)) (sym eb ∙ h))
+
+    module _ {c : Bool} (hb : b ≡ true) (ec : c ≡ groupsPart p) where
+      from-groups : sectionsOk p ≡ (groupsPart p && rulesPart p)
+      from-groups = from-memories ∙ ap (λ (x : Bool). x && (groupsPart p && rulesPart p)) (sym eb ∙ hb)
+
+      pub groups-not : c ≡ false → false ≡ sectionsOk p
+      groups-not h = sym (from-groups ∙ ap (λ (x : Bool). x && rulesPart p) (sym ec ∙ h))
+
+      pub rules-last : c ≡ true → rulesPart p ≡ sectionsOk p
+      rules-last h = sym (from-groups ∙ ap (λ (x : Bool). x && rulesPart p) (sym ec ∙ h))
+
+pub few-rules : (p : List ℕ) → groupsPart p ≡ true → ruleCount p ≤ 32
+unfolding groupsPart
+few-rules p h =
+    leb-true (ruleCount p) 32 (and-right (leb 1 (groupCount p) && leb (groupCount p) 8) (leb (ruleCount p) 32)
+    (and-left (leb 1 (groupCount p) && leb (groupCount p) 8 && leb (ruleCount p) 32) (allUpTo p (groupCount p) (groupOk p) && eqb (rulesBefore p (groupCount p)) (ruleCount p)) h))
+
+module _ (p : List ℕ) {a : Bool} (e : a ≡ sectionsOk p) where
+  pub sound-yes : {b : Bool} → a ≡ true → b ≡ groupsCheck p 0 0 (groupCount p) → b ≡ soundOf p
+  unfolding soundOf
+  sound-yes h q = q ∙ sym (ap (λ (x : Bool). elim x [ true ↦ groupsCheck p 0 0 (groupCount p) | false ↦ false ]) (sym e ∙ h))
+
+  pub sound-no : a ≡ false → false ≡ soundOf p
+  unfolding soundOf
+  sound-no h = sym (ap (λ (x : Bool). elim x [ true ↦ groupsCheck p 0 0 (groupCount p) | false ↦ false ]) (sym e ∙ h))

@@ -1,0 +1,35 @@
+-- `absent_at` meets its contract. Assumes nothing.
+use Prim.Native.Nat.{ℕ, zero, suc, _+_, _-_, _*_, _/_, _%_, _^_, _≤_, _<_, max}
+use mathlib.Core.Path.{_≡_, refl, sym, ap, ap₂, _∙_, subst}
+use lib.ListN.{length, getD, List·getD-eq-default}
+use borrow.Author.Tests.{le-ltb, lt-ltb, le-leb, lt-leb, eq-eqb, ne-eqb}
+use Rattle.plan.specs.Layout.{portCount, portAt, memoriesFrom, memoryCount, memoryWidthAt, memorySizeAt, cellsBefore, groupsFrom, groupCount, groupAt, rulesBefore, rulesFrom, ruleCount, presentAt, absentAt, lengthAt, codeBefore, codeFrom, codeCount}
+use borrow.Author.Needs.{needs}
+use Rattle.plan.proofs.layout.absent_at.Statement.{statement}
+use Rattle.plan.proofs.layout.absent_at.Tie as tie
+
+rules-from-requires : tie.Need-rules-from-requires
+rules-from-requires c κs = search needs
+
+add-number : tie.Need-add-number
+add-number c = search needs
+
+place-requires : tie.Need-place-requires
+place-requires c κs = search needs
+
+mul-number : tie.Need-mul-number
+mul-number c = search needs
+
+add-number-2 : tie.Need-add-number-2
+add-number-2 c = search needs
+
+number-requires : tie.Need-number-requires
+number-requires c κs = search needs
+
+returns : tie.Need-returns
+unfolding absentAt
+returns c = c .number .ensures ∙ ap₂ (λ (n m : ℕ). getD (c .before .before .before .before .args .plan .now) (n + 2 + 3 * m) 0) (c .before .before .rules-from .ensures .0) (c .before .place .ensures .0)
+
+pub absent-at-spec : {M : Type 1} → statement M
+absent-at-spec =
+    tie.close (tie.spec rules-from-requires add-number place-requires mul-number add-number-2 number-requires returns)

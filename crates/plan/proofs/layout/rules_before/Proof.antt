@@ -1,0 +1,26 @@
+-- `rules_before` meets its contract. Assumes nothing.
+use Prim.Native.Nat.{ℕ, zero, suc, _+_, _-_, _*_, _/_, _%_, _^_, _≤_, _<_, max}
+use mathlib.Core.Path.{_≡_, refl, sym, ap, ap₂, _∙_, subst}
+use lib.ListN.{length, getD, List·getD-eq-default}
+use borrow.Author.Tests.{le-ltb, lt-ltb, le-leb, lt-leb, eq-eqb, ne-eqb}
+use Rattle.plan.specs.Steps.{sumOf}
+use Rattle.plan.proofs.Lists.{sum-next, place-next}
+use Rattle.plan.proofs.Lists.{cells-sum, rules-sum, code-sum}
+use borrow.Author.Needs.{needs}
+use Rattle.plan.proofs.layout.rules_before.Statement.{statement}
+use Rattle.plan.proofs.layout.rules_before.Tie as tie
+
+groups-from-requires : tie.Need-groups-from-requires
+groups-from-requires c κs = search needs
+
+add-sum : tie.Need-add-sum
+add-sum c = search needs
+
+sum-requires : tie.Need-sum-requires
+sum-requires c κs = search needs
+
+returns : tie.Need-returns
+returns c = (c .sum .ensures .0 ∙ ap (λ (n : ℕ). sumOf (c .before .before .before .args .plan .now) (n + 1) 1 (c .before .before .before .args .g)) (c .before .groups-from .ensures .0) ∙ rules-sum (c .before .before .before .args .plan .now) (c .before .before .before .args .g), c .sum .ensures .1)
+
+pub rules-before-spec : {M : Type 1} → statement M
+rules-before-spec = tie.close (tie.spec groups-from-requires add-sum sum-requires returns)

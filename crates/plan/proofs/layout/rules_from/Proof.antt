@@ -1,0 +1,33 @@
+-- `rules_from` meets its contract. Assumes nothing.
+use native.Mathlib.Omega.{arith}
+use Prim.Native.Nat.{ℕ, zero, suc, _+_, _-_, _*_, _/_, _%_, _^_, _≤_, _<_, max}
+use mathlib.Core.Path.{_≡_, refl, sym, ap, ap₂, _∙_, subst}
+use lib.ListN.{length, getD, List·getD-eq-default}
+use borrow.Author.Tests.{le-ltb, lt-ltb, le-leb, lt-leb, eq-eqb, ne-eqb}
+use Rattle.plan.specs.Layout.{portCount, portAt, memoriesFrom, memoryCount, memoryWidthAt, memorySizeAt, cellsBefore, groupsFrom, groupCount, groupAt, rulesBefore, rulesFrom, ruleCount, presentAt, absentAt, lengthAt, codeBefore, codeFrom, codeCount}
+use borrow.Author.Needs.{needs}
+use Rattle.plan.proofs.layout.rules_from.Statement.{statement}
+use Rattle.plan.proofs.layout.rules_from.Tie as tie
+
+groups-from-requires : tie.Need-groups-from-requires
+groups-from-requires c κs = search needs
+
+add-result : tie.Need-add-result
+add-result c = search needs
+
+group-count-requires : tie.Need-group-count-requires
+group-count-requires c κs = search needs
+
+place-requires : tie.Need-place-requires
+place-requires c κs = search needs
+
+add-result-2 : tie.Need-add-result-2
+add-result-2 c = search needs
+
+returns : tie.Need-returns
+unfolding rulesFrom
+returns c = (ap₂ (λ (n m : ℕ). n + 1 + m) (c .before .before .groups-from .ensures .0) (c .place .ensures .0 ∙ c .before .group-count .ensures), omega arith)
+
+pub rules-from-spec : {M : Type 1} → statement M
+rules-from-spec =
+    tie.close (tie.spec groups-from-requires add-result group-count-requires place-requires add-result-2 returns)

@@ -1,0 +1,45 @@
+-- `groups_ok` meets its contract. Assumes nothing.
+use Prim.Native.Nat.{ℕ, zero, suc, _+_, _-_, _*_, _/_, _%_, _^_, _≤_, _<_, max}
+use mathlib.Core.Path.{_≡_, refl, sym, ap, ap₂, _∙_, subst}
+use lib.ListN.{length, getD, List·getD-eq-default}
+use borrow.Author.Tests.{le-ltb, lt-ltb, le-leb, lt-leb, eq-eqb, ne-eqb}
+use mathlib.Core.Bool.{Bool, true, false, _&&_, and-assoc, and-false}
+use native.Mathlib.Numerals.{add-one}
+use lib.Dec.{eqb, leb, ltb}
+use Rattle.plan.specs.Layout.{form, portCount, portAt, memoryCount, memoryWidthAt, memorySizeAt, cellsBefore, groupCount, groupAt, rulesBefore, ruleCount, presentAt, absentAt, lengthAt, codeBefore, codeFrom, codeCount}
+use Rattle.plan.specs.Sound.{allUpTo, portOk, memoryFits, groupOk, ruleOk, sectionsOk}
+use Rattle.plan.specs.Sound.{apart as Sound·apart}
+use Rattle.plan.specs.Steps.{portsPart, memoriesPart, groupsPart, rulesPart}
+use Rattle.plan.proofs.Parts.{all-next, apart-next, sections-parts}
+use borrow.Author.Tests.{leb-true}
+use Rattle.plan.proofs.Laws.{and-left, and-right}
+use borrow.Author.Needs.{needs}
+use Rattle.plan.proofs.sections.groups_ok.Statement.{statement}
+use Rattle.plan.proofs.sections.groups_ok.Tie as tie
+
+group-count-requires : tie.Need-group-count-requires
+group-count-requires c κs = search needs
+
+rule-count-requires : tie.Need-rule-count-requires
+rule-count-requires c κs = search needs
+
+groups-hold-requires : tie.Need-groups-hold-requires
+groups-hold-requires c κs = leb-true (c .before .before .group-count .result) 8 (and-right (leb 1 (c .before .before .group-count .result)) (leb (c .before .before .group-count .result) 8) (and-left (leb 1 (c .before .before .group-count .result) && leb (c .before .before .group-count .result) 8) (leb (c .before .rule-count .result) 32) (c .if1 .taken)))
+
+rules-before-requires : tie.Need-rules-before-requires
+rules-before-requires c κs = search needs
+
+place-requires : tie.Need-place-requires
+place-requires c κs = search needs
+
+returns : tie.Need-returns
+unfolding groupsPart
+returns c = let k : (leb 1 (groupCount (c .before .before .before .before .before .before .before .args .plan .now)) && leb (groupCount (c .before .before .before .before .before .before .before .args .plan .now)) 8 && leb (ruleCount (c .before .before .before .before .before .before .before .args .plan .now)) 32) ≡ true = rw (c .before .before .before .before .before .group-count .ensures, c .before .before .before .before .rule-count .ensures) at (c .before .before .before .if1 .taken) in rw k (ap₂ _&&_ (c .before .before .groups-hold .ensures ∙ ap (λ (n : ℕ). allUpTo (c .before .before .before .before .before .before .before .args .plan .now) n (groupOk (c .before .before .before .before .before .before .before .args .plan .now))) (c .before .before .before .before .before .group-count .ensures)) (ap₂ eqb (c .before .rules-before .ensures .0 ∙ ap (rulesBefore (c .before .before .before .before .before .before .before .args .plan .now)) (c .before .before .before .before .before .group-count .ensures)) (c .place .ensures .0 ∙ c .before .before .before .before .rule-count .ensures)))
+
+returns-2 : tie.Need-returns-2
+unfolding groupsPart
+returns-2 c = let k : (leb 1 (groupCount (c .before .before .before .before .args .plan .now)) && leb (groupCount (c .before .before .before .before .args .plan .now)) 8 && leb (ruleCount (c .before .before .before .before .args .plan .now)) 32) ≡ false = rw (c .before .before .group-count .ensures, c .before .rule-count .ensures) at (c .if1 .left) in rw k
+
+pub groups-ok-spec : {M : Type 1} → statement M
+groups-ok-spec =
+    tie.close (tie.spec group-count-requires rule-count-requires groups-hold-requires rules-before-requires place-requires returns returns-2)

@@ -1,0 +1,76 @@
+-- `rule_ok` meets its contract. Assumes nothing.
+use Prim.Native.Nat.{ℕ, zero, suc, _+_, _-_, _*_, _/_, _%_, _^_, _≤_, _<_, max}
+use mathlib.Core.Path.{_≡_, refl, sym, ap, ap₂, _∙_, subst}
+use lib.ListN.{length, getD, List·getD-eq-default}
+use borrow.Author.Tests.{le-ltb, lt-ltb, le-leb, lt-leb, eq-eqb, ne-eqb}
+use mathlib.Core.Bool.{Bool, true, false, _&&_, and-assoc, and-false}
+use native.Mathlib.Numerals.{add-one}
+use lib.Dec.{eqb, leb, ltb}
+use Rattle.plan.specs.Layout.{form, portCount, portAt, memoryCount, memoryWidthAt, memorySizeAt, cellsBefore, groupCount, groupAt, rulesBefore, ruleCount, presentAt, absentAt, lengthAt, codeBefore, codeFrom, codeCount}
+use Rattle.plan.specs.Sound.{allUpTo, portOk, memoryFits, groupOk, ruleOk, sectionsOk}
+use Rattle.plan.specs.Sound.{apart as Sound·apart}
+use Rattle.plan.specs.Steps.{portsPart, memoriesPart, groupsPart, rulesPart}
+use Rattle.plan.proofs.Parts.{all-next, apart-next, sections-parts}
+use borrow.Author.Tests.{leb-true}
+use Rattle.plan.proofs.Laws.{and-left, and-right}
+use borrow.Author.Needs.{needs}
+use Rattle.plan.proofs.sections.rule_ok.Statement.{statement}
+use Rattle.plan.proofs.sections.rule_ok.Tie as tie
+
+present-at-requires : tie.Need-present-at-requires
+present-at-requires c κs = search needs
+
+absent-at-requires : tie.Need-absent-at-requires
+absent-at-requires c κs = search needs
+
+port-count-requires : tie.Need-port-count-requires
+port-count-requires c κs = search needs
+
+wide-requires : tie.Need-wide-requires
+wide-requires c κs = search needs
+
+within-requires : tie.Need-within-requires
+within-requires c κs = search needs
+
+wide-requires-2 : tie.Need-wide-requires-2
+wide-requires-2 c κs = search needs
+
+within-requires-2 : tie.Need-within-requires-2
+within-requires-2 c κs = search needs
+
+apart-requires : tie.Need-apart-requires
+apart-requires c κs = search needs
+
+wide-requires-3 : tie.Need-wide-requires-3
+wide-requires-3 c κs = search needs
+
+wide-requires-4 : tie.Need-wide-requires-4
+wide-requires-4 c κs = search needs
+
+add-masks : tie.Need-add-masks
+add-masks c = search needs
+
+length-at-requires : tie.Need-length-at-requires
+length-at-requires c κs = search needs
+
+add-code-before : tie.Need-add-code-before
+add-code-before c = search needs
+
+code-before-requires : tie.Need-code-before-requires
+code-before-requires c κs = search needs
+
+code-count-requires : tie.Need-code-count-requires
+code-count-requires c κs = search needs
+
+place-requires : tie.Need-place-requires
+place-requires c κs = search needs
+
+returns : tie.Need-returns
+unfolding ruleOk
+returns c = simp (c .before .before .before .before .before .before .before .before .before .within .ensures, c .before .before .before .before .before .before .before .within2 .ensures, c .before .before .before .before .before .before .before .before .before .before .wide .ensures, c .before .before .before .before .before .before .before .before .wide2 .ensures, c .before .before .before .before .before .wide3 .ensures, c .before .before .before .before .wide4 .ensures, c .before .before .before .before .before .before .apart .ensures, c .before .before .before .before .before .before .before .before .before .before .before .before .before .present-at .ensures, c .before .before .before .before .before .before .before .before .before .before .before .before .absent-at .ensures, c .before .before .before .before .before .before .before .before .before .before .before .port-count .ensures, c .before .before .before .length-at .ensures, c .before .before .code-before .ensures .0, c .place .ensures .0, c .before .code-count .ensures, add-one (c .before .before .before .before .before .before .before .before .before .before .before .before .before .before .before .args .r))
+
+pub rule-ok-spec : {M : Type 1} → statement M
+rule-ok-spec =
+    tie.close (tie.spec present-at-requires absent-at-requires port-count-requires wide-requires within-requires wide-requires-2 within-requires-2
+    apart-requires wide-requires-3 wide-requires-4 add-masks length-at-requires add-code-before code-before-requires code-count-requires
+    place-requires returns)

@@ -1,0 +1,161 @@
+-- When a list of numbers is a sound plan. Assumes nothing: these are definitions.
+use mathlib.Core.Bool.{Bool, true, false, not, _&&_}
+use mathlib.Core.List.{List, [], _∷_}
+use Prim.Native.Nat.{ℕ, zero, suc, _+_, _-_, _*_, _/_, _%_, _^_, max}
+use lib.Dec.{eqb, leb, ltb}
+use lib.ListN.{length, getD, set, replicate}
+use Rattle.language.specs.Limits.{limits}
+use Rattle.language.specs.Values.{bitOf, binaryWidth, unaryWidth, rangeWidth}
+use Rattle.plan.specs.declared.Item.{Item}
+use Rattle.plan.specs.declared.Item.the-variants.{Const, Port, Let, Cell, Range, Copies, Beside, Before, Between, Choice, Arm, Keep, Assign, Write, Bad}
+use Rattle.plan.specs.Items.{decodeAll}
+use Rattle.plan.specs.Layout.{form, portCount, portAt, memoryCount, memoryWidthAt, memorySizeAt, cellsBefore, groupCount, groupAt, rulesBefore, ruleCount, presentAt, absentAt, lengthAt, codeBefore, codeFrom, codeCount, codeAt}
+
+-- ---- one rule's code: the widths of the values that wait, the latest first; the widths of the slots, `unset` where nothing was kept; the outputs assigned, as a mask
+
+abbrev pub waiting : ℕ
+waiting = 256
+
+abbrev pub slots : ℕ
+slots = 48
+
+abbrev pub unset : ℕ
+unset = 99
+
+pub data Check : Type 0 where
+  check : List ℕ → List ℕ → ℕ → Check
+  broken : Check
+
+-- what a rule's code goes by: the plan, the rule's present mask, and the outputs that earlier groups assign
+pub record Rules : Type 0 where
+  pub plan : List ℕ
+  pub present : ℕ
+  pub taken : ℕ
+
+-- one value more waits: its width is at most 64, and there is room
+unfoldable pub push : ℕ → List ℕ → List ℕ → ℕ → Check
+push w ws ls d = elim (leb w (limits .wide) && ltb (length ws) waiting) [ true ↦ check (w ∷ ws) ls d | false ↦ broken ]
+
+unfoldable pub test : Bool → Check → Check
+test b c = elim b [ true ↦ c | false ↦ broken ]
+
+abbrev pub take1 : List ℕ → (ℕ → List ℕ → Check) → Check
+take1 [] f = broken
+take1 (x ∷ ws) f = f x ws
+
+abbrev pub take2 : List ℕ → (ℕ → ℕ → List ℕ → Check) → Check
+take2 [] f = broken
+take2 (y ∷ []) f = broken
+take2 (y ∷ x ∷ ws) f = f x y ws
+
+abbrev pub take3 : List ℕ → (ℕ → ℕ → ℕ → List ℕ → Check) → Check
+take3 [] f = broken
+take3 (y ∷ []) f = broken
+take3 (y ∷ x ∷ []) f = broken
+take3 (y ∷ x ∷ c ∷ ws) f = f c x y ws
+
+module _ (t : Rules) where
+  unfoldable pub inputOk : ℕ → Bool
+  inputOk i = ltb i (portCount (t .plan)) && leb (portAt (t .plan) i) (limits .width) && eqb (bitOf (t .present) i) 1
+
+  -- bit `k` of a mask is 0
+  unfoldable pub outputOk : ℕ → ℕ → ℕ → Bool
+  outputOk d k w =
+      ltb k (portCount (t .plan)) && leb 256 (portAt (t .plan) k) && eqb (bitOf (t .present) k) 1 && eqb (bitOf d k) 0 && eqb (bitOf (t .taken) k) 0 && leb w (portAt (t .plan) k - 256)
+
+  unfoldable pub memoryOk : ℕ → ℕ → ℕ → Bool
+  memoryOk m f n = ltb m (memoryCount (t .plan)) && eqb f (cellsBefore (t .plan) m) && eqb n (memorySizeAt (t .plan) m)
+
+  unfoldable pub slotWidth : List ℕ → ℕ → ℕ
+  slotWidth ls k = getD ls k unset
+
+  abbrev pub check1 : Item → List ℕ → List ℕ → ℕ → Check
+  check1 (Const w lo hi) ws ls d = test (leb w (limits .wide) && ltb (lo + hi * 2 ^ 32) (2 ^ w)) (push w ws ls d)
+  check1 (Port i) ws ls d = test (inputOk i) (push (portAt (t .plan) i) ws ls d)
+  check1 (Let k) ws ls d = push (slotWidth ls k) ws ls d
+  check1 (Cell m f n) ws ls d = take1 ws (λ x ws. test (memoryOk m f n) (push (memoryWidthAt (t .plan) m) ws ls d))
+  check1 (Range i j) ws ls d = take1 ws (λ x ws. test (ltb i x && ltb j x) (push (rangeWidth i j) ws ls d))
+  check1 (Copies n w) ws ls d = take1 ws (λ x ws. test (eqb x w && leb n (limits .copies)) (push (n * w) ws ls d))
+  check1 (Beside w) ws ls d = take2 ws (λ x y ws. test (eqb y w) (push (x + y) ws ls d))
+  check1 (Before u w) ws ls d = take1 ws (λ x ws. test (eqb x w) (push (unaryWidth u w) ws ls d))
+  check1 (Between o m n) ws ls d = take2 ws (λ x y ws. test (eqb x m && eqb y n) (push (binaryWidth o m n) ws ls d))
+  check1 Choice ws ls d = take3 ws (λ c x y ws. push (max x y) ws ls d)
+  check1 (Arm n k) ws ls d = take2 ws (λ x y ws. test (leb (slotWidth ls k) (limits .wide)) (push (max x y) ws ls d))
+  check1 (Keep k w) ws ls d = take1 ws (λ x ws. test (ltb k slots && leb x w && leb w (limits .wide)) (check ws (set ls k w) d))
+  check1 (Assign p) ws ls d = take1 ws (λ x ws. test (outputOk d p x) (check ws ls (d + 2 ^ p)))
+  check1 (Write m f n) ws ls d = take2 ws (λ a x ws. test (memoryOk m f n && leb x (memoryWidthAt (t .plan) m)) (check ws ls d))
+  check1 Bad ws ls d = broken
+
+  unfoldable pub checkStep : Item → Check → Check
+  checkStep i (check ws ls d) = check1 i ws ls d
+  checkStep i broken = broken
+
+  unfoldable pub checkAll : List Item → Check → Check
+  checkAll [] c = c
+  checkAll (i ∷ is) c = checkAll is (checkStep i c)
+
+-- none is left at a rule's end; the outputs that the rule assigns
+pub data Ended : Type 0 where
+  ended : ℕ → Ended
+  unended : Ended
+
+unfoldable pub endOf : Check → Ended
+endOf (check [] ls d) = ended d
+endOf (check (w ∷ ws) ls d) = unended
+endOf broken = unended
+
+-- ---- the sections
+
+module _ (p : List ℕ) where
+  -- width 0 to 32, plus 256 for an output
+  unfoldable pub portOk : ℕ → Bool
+  portOk i = leb (portAt p i % 256) (limits .width) && ltb (portAt p i) 512
+
+  unfoldable pub memoryFits : ℕ → Bool
+  memoryFits m = leb (memoryWidthAt p m) (limits .width) && leb 1 (memorySizeAt p m) && leb (memorySizeAt p m) (limits .size) && leb (cellsBefore p (suc m)) (limits .cells)
+
+  -- at least one rule, and with those before no more than there are
+  unfoldable pub groupOk : ℕ → Bool
+  groupOk g = leb 1 (groupAt p g) && leb (rulesBefore p (suc g)) (ruleCount p)
+
+  -- every number up to n, not with it
+  unfoldable pub allUpTo : ℕ → (ℕ → Bool) → Bool
+  allUpTo zero f = true
+  allUpTo (suc n) f = allUpTo n f && f n
+
+  -- no bit past the ports, none in both masks, one at least; whole items
+  unfoldable pub apart : ℕ → ℕ → ℕ → Bool
+  apart a b zero = true
+  apart a b (suc k) = apart a b k && eqb (bitOf a k * bitOf b k) 0
+
+  unfoldable pub ruleOk : ℕ → Bool
+  ruleOk r =
+      ltb (presentAt p r) (2 ^ portCount p) && ltb (absentAt p r) (2 ^ portCount p) && apart (presentAt p r) (absentAt p r) (portCount p) && ltb 0 (presentAt p r + absentAt p r)
+      && eqb (lengthAt p r % 4) 0 && leb (codeBefore p (suc r)) (codeCount p)
+
+  unfoldable pub sectionsOk : Bool
+  sectionsOk =
+      eqb (form p) 1 && leb 1 (portCount p) && leb (portCount p) (limits .ports) && allUpTo (portCount p) portOk
+      && leb (memoryCount p) (limits .memories) && allUpTo (memoryCount p) memoryFits
+      && leb 1 (groupCount p) && leb (groupCount p) (limits .groups) && leb (ruleCount p) (limits .rules) && allUpTo (groupCount p) groupOk && eqb (rulesBefore p (groupCount p)) (ruleCount p)
+      && allUpTo (ruleCount p) ruleOk && eqb (codeBefore p (ruleCount p)) (codeCount p) && eqb (length p) (codeFrom p + 1 + codeCount p)
+
+  -- ---- the rules: in turn the outputs of the earlier groups, and of this group with them; `r` is the next rule, `n` are the rules left of its group
+
+  unfoldable pub ruleCheck : ℕ → ℕ → Ended
+  ruleCheck taken r = endOf (checkAll (record { plan = p; present = presentAt p r; taken = taken }) (decodeAll (codeAt p r)) (check [] (replicate slots unset) 0))
+
+  -- two masks together
+  unfoldable pub joined : ℕ → ℕ → ℕ
+  joined a b = Rattle.language.specs.Values.orOf 16 a b
+
+  unfoldable pub groupCheck : ℕ → ℕ → ℕ → ℕ → Ended
+  groupCheck taken mine r zero = ended mine
+  groupCheck taken mine r (suc n) = elim (ruleCheck taken r) [ ended d ↦ groupCheck taken (joined mine d) (suc r) n | unended ↦ unended ]
+
+  unfoldable pub groupsCheck : ℕ → ℕ → ℕ → Bool
+  groupsCheck taken g zero = true
+  groupsCheck taken g (suc n) = elim (groupCheck taken taken (rulesBefore p g) (groupAt p g)) [ ended d ↦ groupsCheck d (suc g) n | unended ↦ false ]
+
+unfoldable pub soundOf : List ℕ → Bool
+soundOf p = elim (sectionsOk p) [ true ↦ groupsCheck p 0 0 (groupCount p) | false ↦ false ]

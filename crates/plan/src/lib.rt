@@ -1,0 +1,51 @@
+// The plan: its items, its layout, and whether any list of numbers is a sound plan.
+// What comes in: a list of 32-bit numbers. What goes out: whether it is sound; and, in specs/,
+// the plan of an accepted actor.
+mod items;
+mod layout;
+mod rules;
+mod sections;
+mod steps;
+mod widths;
+
+pub use items::fetch;
+pub use items::takes;
+use language::Binary;
+use language::Unary;
+pub use layout::absent_at;
+pub use layout::bit;
+pub use layout::cells_before;
+pub use layout::code_before;
+pub use layout::code_from;
+pub use layout::group_at;
+pub use layout::group_count;
+pub use layout::length_at;
+pub use layout::memory_count;
+pub use layout::memory_size;
+pub use layout::memory_width;
+pub use layout::place;
+pub use layout::port_at;
+pub use layout::port_count;
+pub use layout::present_at;
+pub use layout::within;
+pub use rules::sound;
+pub use widths::constant;
+
+// One item of a rule's code, as docs/PLAN.md numbers them.
+pub enum Item {
+    Const(u32, u32, u32),
+    Port(u32),
+    Let(u32),
+    Cell(u32, u32, u32),
+    Range(u32, u32),
+    Copies(u32, u32),
+    Beside(u32),
+    Before(Unary, u32),
+    Between(Binary, u32, u32),
+    Choice,
+    Arm(u32, u32),
+    Keep(u32, u32),
+    Assign(u32),
+    Write(u32, u32, u32),
+    Bad,
+}

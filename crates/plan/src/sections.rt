@@ -1,0 +1,206 @@
+// The sections of a plan: each count within its limit, and what each section holds.
+ghost use mathlib.Core.Path.{_≡_};
+ghost use mathlib.Core.Bool.{_&&_};
+ghost use Prim.Native.Nat.{_+_, _≤_};
+ghost use lib.Dec.{eqb, leb};
+ghost use lib.ListN.{length};
+ghost use Rattle.plan.specs.Layout.{form, portCount, memoryCount, cellsBefore, groupCount, rulesBefore, ruleCount, codeBefore, codeFrom, codeCount};
+ghost use Rattle.plan.specs.Sound.{portOk, memoryFits, groupOk, ruleOk, allUpTo, sectionsOk};
+ghost use Rattle.plan.specs.Sound.{apart as Sound·apart};
+ghost use Rattle.plan.specs.Steps.{portsPart, memoriesPart, groupsPart, rulesPart};
+use crate::layout::absent_at;
+use crate::layout::bit;
+use crate::layout::cells_before;
+use crate::layout::code_before;
+use crate::layout::code_count;
+use crate::layout::code_from;
+use crate::layout::group_at;
+use crate::layout::group_count;
+use crate::layout::length_at;
+use crate::layout::memory_count;
+use crate::layout::memory_size;
+use crate::layout::memory_width;
+use crate::layout::number;
+use crate::layout::place;
+use crate::layout::port_at;
+use crate::layout::port_count;
+use crate::layout::present_at;
+use crate::layout::rule_count;
+use crate::layout::rules_before;
+use crate::layout::within;
+use language::Plan;
+
+fn port_ok(plan: &[u32], i: u32) -> bool
+    ensures { λ r. ⌜ r ≡ portOk (now (plan .entry)) i ⌝ }
+{
+    let p = port_at(plan, i);
+    (p % 256 <= Plan::WIDTH) & (p < 512)
+}
+
+fn ports_hold(plan: &[u32], n: u32) -> bool
+    ensures { λ r. ⌜ r ≡ allUpTo (now (plan .entry)) n (portOk (now (plan .entry))) ⌝ }
+{
+    let mut ok = true;
+    let mut i = 0u32;
+    while i < n {
+        ok = ok & port_ok(plan, i);
+        i += 1;
+    }
+    ok
+}
+
+// The counts come first: no loop runs further than its limit.
+fn ports_ok(plan: &[u32]) -> bool
+    ensures { λ r. ⌜ r ≡ portsPart (now (plan .entry)) ⌝ }
+{
+    let n = port_count(plan);
+    if (number(plan, 0) == 1) & (1 <= n) & (n <= Plan::PORTS) {
+        ports_hold(plan, n)
+    } else {
+        false
+    }
+}
+
+fn memory_fits(plan: &[u32], m: u32) -> bool
+    requires { ⌜ m ≤ 8 ⌝ }
+    ensures { λ r. ⌜ r ≡ memoryFits (now (plan .entry)) m ⌝ }
+{
+    let size = memory_size(plan, m);
+    (memory_width(plan, m) <= Plan::WIDTH)
+        & (1 <= size)
+        & (size <= Plan::SIZE)
+        & (cells_before(plan, m + 1) <= 256)
+}
+
+fn memories_hold(plan: &[u32], n: u32) -> bool
+    requires { ⌜ n ≤ 8 ⌝ }
+    ensures { λ r. ⌜ r ≡ allUpTo (now (plan .entry)) n (memoryFits (now (plan .entry))) ⌝ }
+{
+    let mut ok = true;
+    let mut m = 0u32;
+    while m < n {
+        ok = ok & memory_fits(plan, m);
+        m += 1;
+    }
+    ok
+}
+
+fn memories_ok(plan: &[u32]) -> bool
+    ensures { λ r. ⌜ r ≡ memoriesPart (now (plan .entry)) ⌝ }
+{
+    let n = memory_count(plan);
+    if n <= Plan::MEMORIES {
+        memories_hold(plan, n)
+    } else {
+        false
+    }
+}
+
+// At least one rule, and with those before no more than there are.
+fn group_ok(plan: &[u32], g: u32) -> bool
+    requires { ⌜ g ≤ 8 ⌝ }
+    ensures { λ r. ⌜ r ≡ groupOk (now (plan .entry)) g ⌝ }
+{
+    (1 <= group_at(plan, g)) & (rules_before(plan, g + 1) <= place(rule_count(plan)))
+}
+
+fn groups_hold(plan: &[u32], n: u32) -> bool
+    requires { ⌜ n ≤ 8 ⌝ }
+    ensures { λ r. ⌜ r ≡ allUpTo (now (plan .entry)) n (groupOk (now (plan .entry))) ⌝ }
+{
+    let mut ok = true;
+    let mut g = 0u32;
+    while g < n {
+        ok = ok & group_ok(plan, g);
+        g += 1;
+    }
+    ok
+}
+
+fn groups_ok(plan: &[u32]) -> bool
+    ensures { λ r. ⌜ r ≡ groupsPart (now (plan .entry)) ⌝ }
+{
+    let n = group_count(plan);
+    let rules = rule_count(plan);
+    if (1 <= n) & (n <= Plan::GROUPS) & (rules <= Plan::RULES) {
+        groups_hold(plan, n) & (rules_before(plan, n) == place(rules))
+    } else {
+        false
+    }
+}
+
+// No bit below k is in both masks.
+fn apart(plan: &[u32], a: u32, b: u32, k: u32) -> bool
+    ensures { λ r. ⌜ r ≡ Sound·apart (now (plan .entry)) a b k ⌝ }
+{
+    let mut ok = true;
+    let mut i = 0u32;
+    while i < k {
+        ok = ok & (bit(a, i) * bit(b, i) == 0);
+        i += 1;
+    }
+    ok
+}
+
+fn wide(x: u32) -> u64
+    ensures { λ r. ⌜ r ≡ x ⌝ }
+{
+    x as u64
+}
+
+fn rule_ok(plan: &[u32], r: u32) -> bool
+    requires { ⌜ r ≤ 32 ⌝ }
+    ensures { λ x. ⌜ x ≡ ruleOk (now (plan .entry)) r ⌝ }
+{
+    let a = present_at(plan, r);
+    let b = absent_at(plan, r);
+    let n = port_count(plan);
+    let masks = within(wide(a), n)
+        & within(wide(b), n)
+        & apart(plan, a, b, n)
+        & (0 < wide(a) + wide(b));
+    let whole = length_at(plan, r) % 4 == 0;
+    masks & whole & (code_before(plan, r + 1) <= place(code_count(plan)))
+}
+
+fn rules_hold(plan: &[u32], n: u32) -> bool
+    requires { ⌜ n ≤ 32 ⌝ }
+    ensures { λ r. ⌜ r ≡ allUpTo (now (plan .entry)) n (ruleOk (now (plan .entry))) ⌝ }
+{
+    let mut ok = true;
+    let mut r = 0u32;
+    while r < n {
+        ok = ok & rule_ok(plan, r);
+        r += 1;
+    }
+    ok
+}
+
+// The lengths add up to the count, and nothing follows.
+fn rules_ok(plan: &[u32]) -> bool
+    requires { ⌜ ruleCount (now plan) ≤ 32 ⌝ }
+    ensures { λ r. ⌜ r ≡ rulesPart (now (plan .entry)) ⌝ }
+{
+    let n = rule_count(plan);
+    let code = place(code_count(plan));
+    rules_hold(plan, n)
+        & (code_before(plan, n) == code)
+        & (plan.len() == code_from(plan) + 1 + code)
+}
+
+// A section is looked at where those before it are in order.
+pub fn sections_ok(plan: &[u32]) -> bool
+    ensures { λ r. ⌜ r ≡ sectionsOk (now (plan .entry)) ⌝ }
+{
+    if !ports_ok(plan) {
+        return false;
+    }
+    if !memories_ok(plan) {
+        return false;
+    }
+    if groups_ok(plan) {
+        rules_ok(plan)
+    } else {
+        false
+    }
+}
