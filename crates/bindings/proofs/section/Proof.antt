@@ -1,0 +1,35 @@
+-- `bindings::section` meets its contract. Assumes nothing.
+use native.Mathlib.Omega.{arith}
+use mathlib.Core.Path.{_≡_, refl, sym, ap, _∙_}
+use Rattle.bindings.specs.Steps.{linesTold}
+use Rattle.bindings.proofs.Laws.{went-in, went-small, lost-in, number-went, number-lost}
+use Rattle.bindings.proofs.Rows.{section-lost, section-went, named-none}
+use borrow.Author.Needs.{needs}
+use Rattle.bindings.proofs.section.Statement.{statement}
+use Rattle.bindings.proofs.section.Tie as tie
+
+number-line-requires : tie.Need-number-line-requires
+number-line-requires c κs = search needs
+
+enum-known-p : tie.Need-enum-known-p
+enum-known-p c = search needs
+
+enum-known-at : tie.Need-enum-known-at
+enum-known-at c = search needs
+
+lines-requires : tie.Need-lines-requires
+lines-requires c κs = (record { few = omega arith; inside = went-in (c .before .before .before .before .number-line .ensures) (c .before .before .at .given .1); short = c .before .before .before .before .before .before .before .pre .0 .short; wide = c .before .before .before .before .before .before .before .pre .0 .wide; named = c .before .before .before .before .before .before .before .pre .0 .named }, (went-small (c .before .before .before .before .number-line .ensures) (c .before .before .at .given .1), c .before .before .before .before .before .before .before .pre .1 .0, c .before .before .before .before .before .before .before .pre .1 .1))
+
+returns : tie.Need-returns
+unfolding linesTold
+returns c = record { reads = record { tells = section-lost _ _ _ (number-lost (c .before .before .before .number-line .ensures) (c .before .p .given .1)); inside = lost-in (c .before .before .before .number-line .ensures) (c .before .p .given .1); small = omega arith }; named = named-none _ _ }
+
+same-length : tie.Need-same-length
+same-length c = search needs
+
+returns-2 : tie.Need-returns-2
+returns-2 c = let w = c .before .before .lines .ensures in record { reads = record { tells = section-went _ _ _ (number-went (c .before .before .before .before .before .before .before .number-line .ensures) (c .before .before .before .before .before .at .given .1)) ∙ w .reads .tells; inside = w .reads .inside; small = w .reads .small }; named = w .named }
+
+pub section-spec : {M : Type 1} → statement M
+section-spec =
+    tie.close (tie.spec number-line-requires enum-known-p enum-known-at lines-requires returns same-length returns-2)

@@ -1,0 +1,6 @@
+pub mod Bytes
+pub mod Spelled
+pub mod Amounts
+pub mod Parts
+pub mod Whole
+pub mod Back
