@@ -1,0 +1,9 @@
+-- What the proofs of the readers share.
+mod Table
+mod Laws
+mod Spells
+mod Arms
+mod Grammar
+mod Operands
+mod Turns
+mod Stated

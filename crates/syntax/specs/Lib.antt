@@ -1,0 +1,4 @@
+pub mod Tape
+pub mod Marks
+pub mod Meets
+pub mod States

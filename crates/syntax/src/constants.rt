@@ -1,0 +1,117 @@
+// Constants, names and bit positions: what of an operand holds no expression.
+use crate::Out;
+use crate::Table;
+use crate::Tape;
+use crate::items::put;
+use crate::look::closed;
+use crate::look::kind;
+use crate::look::value;
+use crate::types::typ;
+ghost use mathlib.Core.Path.{_≡_};
+ghost use Prim.Native.Nat.{ℕ, _+_};
+ghost use Rattle.syntax.specs.Marks.{kindAt};
+ghost use Rattle.syntax.specs.Meets.{Room, Starts, Shuts, Valued, IsOperand, IsPart, IsAmount, IsPositions};
+
+// The value of a sized constant, whose width is on the tape: digits, or `'d` and an environment name.
+fn amount(words: &Table, tape: &mut Tape, at: usize, n: usize) -> Out
+    requires { ⌜ Room (now words) at n ⌝ }
+    ensures { λ r. ⌜ IsAmount (now (words .entry)) at n (now (tape .entry)) r (now (tape .exit)) ⌝ }
+{
+    let k = kind(words, at);
+    if k == 3 {
+        let m = put(words, tape, at, n, 14, 0);
+        return Out::At(at + 1, m);
+    }
+    if k != 23 {
+        return Out::Bad(at);
+    }
+    let name = kind(words, at + 1);
+    if name == 2 {
+        let m = put(words, tape, at + 1, n, 15, 0);
+        Out::At(at + 2, m)
+    } else {
+        Out::Bad(at + 1)
+    }
+}
+
+// A number that is no count of copies: the width of a constant, or a constant itself.
+pub fn constant(words: &Table, tape: &mut Tape, at: usize, n: usize) -> Out
+    requires { ⌜ Starts (now words) at n 1 ⌝ }
+    requires { ⌜ (kindAt (now words) (at + 1) ≡ 38 → ⊥) ⌝ }
+    ensures { λ r. ⌜ IsOperand (now (words .entry)) at n (now (tape .entry)) r (now (tape .exit)) ⌝ }
+{
+    let k = kind(words, at + 1);
+    match k {
+        3 => width(words, tape, at, n),
+        23 => width(words, tape, at, n),
+        _ => {
+            let v = value(words, at);
+            let m = put(words, tape, at, n, 16, v);
+            Out::At(at + 1, m)
+        }
+    }
+}
+
+// A width, and what it holds.
+fn width(words: &Table, tape: &mut Tape, at: usize, n: usize) -> Out
+    requires { ⌜ Starts (now words) at n 1 ⌝ }
+    requires { ⌜ Valued (now words) (at + 1) ⌝ }
+    ensures { λ r. ⌜ IsOperand (now (words .entry)) at n (now (tape .entry)) r (now (tape .exit)) ⌝ }
+{
+    let v = value(words, at);
+    let m = put(words, tape, at, n, 12, v);
+    amount(words, tape, at + 1, m)
+}
+
+// A constant whose width is a type in `< >`.
+pub fn typed(words: &Table, tape: &mut Tape, at: usize, n: usize) -> Out
+    requires { ⌜ Starts (now words) at n 48 ⌝ }
+    ensures { λ r. ⌜ IsOperand (now (words .entry)) at n (now (tape .entry)) r (now (tape .exit)) ⌝ }
+{
+    let o = typ(words, tape, at + 1, n);
+    match closed(words, o, 49) {
+        Out::At(x, m) => {
+            let q = put(words, tape, at, m, 13, 0);
+            amount(words, tape, x, q)
+        }
+        Out::Bad(i) => Out::Bad(i),
+    }
+}
+
+// What follows a name or parentheses that are on the tape: bit positions, or nothing.
+pub fn part(words: &Table, tape: &mut Tape, at: usize, n: usize) -> Out
+    requires { ⌜ Room (now words) at n ⌝ }
+    ensures { λ r. ⌜ IsPart (now (words .entry)) at n (now (tape .entry)) r (now (tape .exit)) ⌝ }
+{
+    let k = kind(words, at);
+    if k != 40 {
+        return Out::At(at, n);
+    }
+    match typ(words, tape, at + 1, n) {
+        Out::At(x, m) => positions(words, tape, at, x, m),
+        Out::Bad(i) => Out::Bad(i),
+    }
+}
+
+// What follows the first bit position: the `[` stands at `from`.
+fn positions(words: &Table, tape: &mut Tape, from: usize, at: usize, n: usize) -> Out
+    requires { ⌜ Shuts (now words) from at n ⌝ }
+    ensures { λ r. ⌜ IsPositions (now (words .entry)) from at n (now (tape .entry)) r (now (tape .exit)) ⌝ }
+{
+    let k = kind(words, at);
+    if k == 41 {
+        let m = put(words, tape, from, n, 20, 0);
+        return Out::At(at + 1, m);
+    }
+    if k != 44 {
+        return Out::Bad(at);
+    }
+    let o = typ(words, tape, at + 1, n);
+    match closed(words, o, 41) {
+        Out::At(x, m) => {
+            let q = put(words, tape, from, m, 21, 0);
+            Out::At(x, q)
+        }
+        Out::Bad(i) => Out::Bad(i),
+    }
+}
