@@ -24,7 +24,7 @@ the s p = name (record { at = p; spelled = bytes s })
 abbrev pub figure : ℕ → ℕ → Word
 figure v p = num (record { at = p; value = v; long = 1 })
 
--- ---- "Precedence is section 4.10's table with `==` for `=` and `^~` as `~^`."
+-- ---- precedence is section 4.10's, "with `==` for `=` and `^~` as `~^`"
 
 pub record Operator : Type 0 where
   pub sign : String
