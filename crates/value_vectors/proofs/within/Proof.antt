@@ -1,4 +1,4 @@
--- `value_vectors::tries::within` meets its contract. Assumes nothing.
+-- `value_vectors::within` meets its contract. Assumes nothing.
 use mathlib.Core.Path.{_≡_, refl, ap, _∙_}
 use mathlib.Core.Bool.{Bool, true, false}
 use Prim.Native.Nat.{ℕ, _%_, _^_, _<_}
@@ -8,8 +8,8 @@ use lib.Dec.{eqb, ltb}
 use lib.Pow.{pow-pos}
 use borrow.Author.Tests.{ltb-true, ltb-false, eq-eqb, ne-eqb}
 use borrow.Author.Needs.{needs}
-use Rattle.value_vectors.proofs.tries.within.Statement.{statement}
-use Rattle.value_vectors.proofs.tries.within.Tie as tie
+use Rattle.value_vectors.proofs.within.Statement.{statement}
+use Rattle.value_vectors.proofs.within.Tie as tie
 
 -- a number is its low w bits exactly where it has no others
 same-low : (w a : ℕ) (t : Bool) → ltb a (2 ^ w) ≡ t → eqb (a % 2 ^ w) a ≡ t

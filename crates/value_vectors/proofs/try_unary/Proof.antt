@@ -1,9 +1,9 @@
--- `value_vectors::tries::try_unary` meets its contract: it has tested what `unary` requires. Assumes nothing.
+-- `value_vectors::try_unary` meets its contract: it has tested what `unary` requires. Assumes nothing.
 use native.Mathlib.Omega.{arith}
 use Rattle.value_vectors.proofs.Tested.{passed}
 use borrow.Author.Needs.{needs}
-use Rattle.value_vectors.proofs.tries.try_unary.Statement.{statement}
-use Rattle.value_vectors.proofs.tries.try_unary.Tie as tie
+use Rattle.value_vectors.proofs.try_unary.Statement.{statement}
+use Rattle.value_vectors.proofs.try_unary.Tie as tie
 
 returns : tie.Need-returns
 returns c = search needs

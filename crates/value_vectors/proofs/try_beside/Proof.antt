@@ -1,10 +1,10 @@
--- `value_vectors::tries::try_beside` meets its contract: it has tested what `beside` requires. Assumes nothing.
+-- `value_vectors::try_beside` meets its contract: it has tested what `beside` requires. Assumes nothing.
 use native.Mathlib.Omega.{arith}
 use Rattle.value_vectors.proofs.Tested.{passed}
 use Rattle.value.proofs.Fits.{beside-within}
 use borrow.Author.Needs.{needs}
-use Rattle.value_vectors.proofs.tries.try_beside.Statement.{statement}
-use Rattle.value_vectors.proofs.tries.try_beside.Tie as tie
+use Rattle.value_vectors.proofs.try_beside.Statement.{statement}
+use Rattle.value_vectors.proofs.try_beside.Tie as tie
 
 returns : tie.Need-returns
 returns c = search needs

@@ -1,11 +1,11 @@
--- `value_vectors::tries::try_copies` meets its contract: it has tested what `copies` requires. Assumes nothing.
+-- `value_vectors::try_copies` meets its contract: it has tested what `copies` requires. Assumes nothing.
 use Prim.Native.Nat.{ℕ, _*_, _≤_}
 use native.Mathlib.Nat.{mul-le-mul}
 use native.Mathlib.Omega.{arith}
 use Rattle.value_vectors.proofs.Tested.{passed}
 use borrow.Author.Needs.{needs}
-use Rattle.value_vectors.proofs.tries.try_copies.Statement.{statement}
-use Rattle.value_vectors.proofs.tries.try_copies.Tie as tie
+use Rattle.value_vectors.proofs.try_copies.Statement.{statement}
+use Rattle.value_vectors.proofs.try_copies.Tie as tie
 
 product : (k w : ℕ) → k ≤ 64 → w ≤ 64 → k * w ≤ 64 * 64
 product k w h l = mul-le-mul h l
