@@ -1,6 +1,7 @@
 pub mod Bytes
 pub mod Spelled
 pub mod Amounts
+pub mod Digits
 pub mod Parts
 pub mod Whole
 pub mod Back

@@ -1,6 +1,9 @@
 // From the actor's bytes to the table of its words (rows 3 and 4 of document 01).
 // What comes in: a text and a lent table. What goes out: the number of words, each four numbers in
 // the table (kind, place, length, value), or the place of the first bad word.
+mod constants;
+
+pub use constants::constant;
 ghost use mathlib.Core.Path.{_≡_};
 ghost use mathlib.Core.Bool.{true};
 ghost use mathlib.Core.List.{[], _∷_};
@@ -8,7 +11,7 @@ ghost use Prim.Native.Nat.{_+_, _*_, _≤_, _<_};
 ghost use lib.ListN.{length, drop, getD};
 ghost use lib.Seq.{sets};
 ghost use Rattle.language.specs.Text.{earliest};
-ghost use Rattle.language.specs.Words.{blank, begins, digitIn, baseOf, span as spanOf, close as closeOf, gap as gapOf, nameByte, ownName, namedNext, numberNext, nameNext, quoteNext, signNext, next as nextOf, digit};
+ghost use Rattle.language.specs.Words.{blank, begins, plainByte, digitOf, digitIn, baseOf, span as spanOf, close as closeOf, gap as gapOf, nameByte, ownName, namedNext, numberNext, nameNext, quoteNext, signNext, next as nextOf, digit};
 ghost use Rattle.words.specs.Found.{testOf, Tells, GapAt, AfterGaps, cappedOf, numberItem, foundOf, tableAfter, leftIn, leftKind, earlierOf, placeTold};
 ghost use Rattle.words.specs.Signs.{signOf, rowKind, signKind};
 
@@ -30,6 +33,13 @@ pub enum Found {
     Bad(u32),
     // A text over its limit, or a table with less than four numbers for each byte: nothing is read.
     NoRoom,
+}
+
+// The value of a sized constant's digits.
+pub enum Amount {
+    Exact(u64),
+    // 64 bits do not hold it.
+    TooBig,
 }
 
 // A place, where there is one.
@@ -60,19 +70,27 @@ fn is_blank(b: u8) -> bool
     }
 }
 
+// What a letter or digit is worth.
+fn digit_of(b: u8) -> usize
+    requires { ⌜ plainByte b ≡ true ⌝ }
+    ensures { λ r. ⌜ (r ≡ digitOf b) × (r ≤ 255) ⌝ }
+{
+    if b <= b'9' {
+        return b as usize - 48;
+    }
+    if b <= b'Z' {
+        return b as usize - 55;
+    }
+    b as usize - 87
+}
+
 fn digit_in(base: usize, b: u8) -> bool
     ensures { λ r. ⌜ r ≡ digitIn base b ⌝ }
 {
     if !names::is_plain(b) {
         return false;
     }
-    if b <= b'9' {
-        return b as usize - 48 < base;
-    }
-    if b <= b'Z' {
-        return b as usize - 55 < base;
-    }
-    b as usize - 87 < base
+    digit_of(b) < base
 }
 
 // Whether a byte is of a class.

@@ -1,8 +1,10 @@
 -- `words::digit_in` meets its contract. Assumes nothing.
-use native.Mathlib.Omega.{arith}
-use mathlib.Core.Path.{sym, _∙_}
+use mathlib.Core.Path.{sym, ap, _∙_}
+use Prim.Native.Nat.{ℕ}
+use lib.Dec.{ltb}
 use borrow.Author.Tests.{not-true, not-false}
-use Rattle.words.proofs.Bytes.{in-none, in-digit, in-upper, in-lower, plain-low, plain-upper, plain-lower}
+use Rattle.words.proofs.Bytes.{in-none}
+use Rattle.words.proofs.Digits.{in-plain}
 use borrow.Author.Needs.{needs}
 use Rattle.words.proofs.digit_in.Statement.{statement}
 use Rattle.words.proofs.digit_in.Tie as tie
@@ -13,24 +15,11 @@ is-plain-requires c κs = search needs
 returns : tie.Need-returns
 returns c = sym (in-none _ _ (sym (c .before .is-plain .ensures) ∙ not-true _ (c .if1 .taken)))
 
-sub-result : tie.Need-sub-result
-sub-result c = plain-low _ (sym (c .before .before .is-plain .ensures) ∙ not-false _ (c .before .if1 .left))
+digit-of-requires : tie.Need-digit-of-requires
+digit-of-requires c κs = sym (c .before .is-plain .ensures) ∙ not-false _ (c .if1 .left)
 
 returns-2 : tie.Need-returns-2
-returns-2 c = sym (in-digit _ (sym (c .before .before .is-plain .ensures) ∙ not-false _ (c .before .if1 .left)) _ (c .if2 .taken))
-
-sub-result-2 : tie.Need-sub-result-2
-sub-result-2 c = let k = plain-upper (c .before .before .before .before .args .b) (sym (c .before .before .before .is-plain .ensures) ∙ not-false _ (c .before .before .if1 .left)) (c .before .if2 .left) in omega arith
-
-returns-3 : tie.Need-returns-3
-returns-3 c = sym (in-upper _ (sym (c .before .before .before .is-plain .ensures) ∙ not-false _ (c .before .before .if1 .left)) _ (c .before .if2 .left) (c .if3 .taken))
-
-sub-result-3 : tie.Need-sub-result-3
-sub-result-3 c = let k = plain-lower (c .before .before .before .before .args .b) (sym (c .before .before .before .is-plain .ensures) ∙ not-false _ (c .before .before .if1 .left)) (c .if3 .left) in omega arith
-
-returns-4 : tie.Need-returns-4
-returns-4 c = sym (in-lower _ (sym (c .before .before .before .is-plain .ensures) ∙ not-false _ (c .before .before .if1 .left)) _ (c .before .if2 .left) (c .if3 .left))
+returns-2 c = ap (λ (d : ℕ). ltb d (c .before .before .before .args .base)) (c .digit-of .ensures .0) ∙ sym (in-plain _ _ (sym (c .before .before .is-plain .ensures) ∙ not-false _ (c .before .if1 .left)))
 
 pub digit-in-spec : {M : Type 1} → statement M
-digit-in-spec =
-    tie.close (tie.spec is-plain-requires returns sub-result returns-2 sub-result-2 returns-3 sub-result-3 returns-4)
+digit-in-spec = tie.close (tie.spec is-plain-requires returns digit-of-requires returns-2)
