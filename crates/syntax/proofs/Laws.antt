@@ -34,6 +34,9 @@ on-more {s} {b} {l} {l′} p q = record {
 pub on-as : {s t : List ℕ} {b n : ℕ} {l l′ : List ℕ} → l ≡ l′ → On s b l n t → On s b l′ n t
 on-as {s} {t} {b} {n} e p = subst (λ (l : List ℕ). On s b l n t) e p
 
+pub on-value : {s t : List ℕ} {b n op p v v′ : ℕ} → v ≡ v′ → On s b (op ∷ p ∷ v ∷ []) n t → On s b (op ∷ p ∷ v′ ∷ []) n t
+on-value {op} {p} e o = on-as (ap (λ (v : ℕ). op ∷ p ∷ v ∷ []) e) o
+
 -- ---- where answers lie
 
 pub moved-at : {len at n x m : ℕ} {o : Out} → o ≡ At x m → Moved len at n o → Went len at n x m

@@ -7,3 +7,6 @@ mod Grammar
 mod Operands
 mod Turns
 mod Stated
+mod Lists
+mod Commas
+mod Ruled

@@ -15,7 +15,7 @@ use Rattle.language.specs.Text.{Name, same, among}
 use Rattle.language.specs.Words.{Word, num, name, digits, fixed, Numeral, bytes}
 use Rattle.language.specs.Reader.{Res, ok, bad, dry, bind, on, is, isNum, isName, isDigits, isThe, expect, until}
 use Rattle.words.specs.Table.{spelledWords, wordOf, wordAt}
-use Rattle.syntax.specs.Marks.{count, kindAt, placeAt, longAt, valueAt, numeralAt, nameAt, spelledAt, Marked, fixedOf, levelOf, theType, isType}
+use Rattle.syntax.specs.Marks.{count, kindAt, placeAt, longAt, valueAt, numeralAt, nameAt, spelledAt, Marked, fixedOf, levelOf, theType, isType, theP, isP}
 use Rattle.syntax.specs.Meets.{On, Went, Stopped, Moved, Agrees, read, fault, Closes, closes, missing, faulty}
 use Rattle.syntax.proofs.Laws.{moved-at, moved-bad, bind-at, bind-bad}
 use Rattle.syntax.specs.declared.Out.{Out}
@@ -203,69 +203,94 @@ module _ {text : List ℕ} {ms : List (List ℕ)} {w : List ℕ} {ws : List Word
     unfolding expect
     expect-bad g e = off-is g (λ ws. bad ws) e
 
--- ---- the name `type`
+-- ---- the names `type` and `p`: a name that is spelled so has the value a or b
 
-pub type-two : (w : List ℕ) (x : ℕ) → kindAt w x ≡ 2 → theType w x ≡ isType (valueAt w x)
-unfolding theType
-type-two w x e = simp (theType, eq-eqb _ _ e)
+abbrev marked : ℕ → ℕ → List ℕ → ℕ → Bool
+marked a b w x = eqb (kindAt w x) 2 && (eqb (valueAt w x) a || eqb (valueAt w x) b)
 
-pub type-none : (w : List ℕ) (x : ℕ) → (kindAt w x ≡ 2 → ⊥) → false ≡ theType w x
-unfolding theType
-type-none w x e = simp (theType, ne-eqb _ _ e)
+module _ (a b : ℕ) (w : List ℕ) (x : ℕ) where
+  mark-two : kindAt w x ≡ 2 → marked a b w x ≡ (eqb (valueAt w x) a || eqb (valueAt w x) b)
+  mark-two e = simp (eq-eqb _ _ e)
 
-pub type-yes : (w : List ℕ) (x v : ℕ) → kindAt w x ≡ 2 → v ≡ valueAt w x → v ≡ 2 → eqb v 2 ≡ theType w x
-unfolding isType
-type-yes w x v k e q = eq-eqb v 2 q ∙ sym (type-two w x k ∙ simp (isType, eq-eqb (valueAt w x) 2 (sym e ∙ q)))
+  pub mark-none : (kindAt w x ≡ 2 → ⊥) → false ≡ marked a b w x
+  mark-none e = simp (ne-eqb _ _ e)
 
-pub type-no : (w : List ℕ) (x v : ℕ) → kindAt w x ≡ 2 → v ≡ valueAt w x → (v ≡ 2 → ⊥) → eqb v 6 ≡ theType w x
-unfolding isType
-type-no w x v k e q = ap (λ (v : ℕ). eqb v 6) e ∙ sym (type-two w x k ∙ simp (isType, ne-eqb (valueAt w x) 2 (λ z. q (e ∙ z))))
+  pub mark-yes : (v : ℕ) → kindAt w x ≡ 2 → v ≡ valueAt w x → v ≡ a → eqb v a ≡ marked a b w x
+  mark-yes v k e q = eq-eqb v a q ∙ sym (mark-two k ∙ simp (eq-eqb (valueAt w x) a (sym e ∙ q)))
 
-type-kind : (w : List ℕ) (x : ℕ) → theType w x ≡ true → kindAt w x ≡ 2
-unfolding theType
-type-kind w x e = eqb-true _ _ (and-left _ _ e)
+  pub mark-no : (v : ℕ) → kindAt w x ≡ 2 → v ≡ valueAt w x → (v ≡ a → ⊥) → eqb v b ≡ marked a b w x
+  mark-no v k e q = ap (λ (v : ℕ). eqb v b) e ∙ sym (mark-two k ∙ simp (ne-eqb (valueAt w x) a (λ z. q (e ∙ z))))
 
-pub type-inside : (w : List ℕ) (x : ℕ) → theType w x ≡ true → x < count w
-type-inside w x e = kind-inside w x 2 (omega arith) (type-kind w x e)
+  mark-kind : marked a b w x ≡ true → kindAt w x ≡ 2
+  mark-kind e = eqb-true _ _ (and-left _ _ e)
 
-the-miss : (text : List ℕ) (p l v k : ℕ) → (k ≡ 2 → ⊥) → isThe "type" (wordOf text k p l v) ≡ none
+  mark-inside : marked a b w x ≡ true → x < count w
+  mark-inside e = kind-inside w x 2 (omega arith) (mark-kind e)
+
+the-miss : (s : String) (text : List ℕ) (p l v k : ℕ) → (k ≡ 2 → ⊥) → isThe s (wordOf text k p l v) ≡ none
 unfolding isThe wordOf
-the-miss text p l v zero h = refl
-the-miss text p l v (suc zero) h = refl
-the-miss text p l v (suc (suc zero)) h = absurd (h refl)
-the-miss text p l v (suc (suc (suc zero))) h = refl
-the-miss text p l v (suc (suc (suc (suc k)))) h = refl
+the-miss s text p l v zero h = refl
+the-miss s text p l v (suc zero) h = refl
+the-miss s text p l v (suc (suc zero)) h = absurd (h refl)
+the-miss s text p l v (suc (suc (suc zero))) h = refl
+the-miss s text p l v (suc (suc (suc (suc k)))) h = refl
 
-module _ {S : Type 0} (n : Name) (r : List Word) (g : ℕ → List Word → Res S) (d : List Word → Res S) where
-  the-hit : same (bytes "type") (n .spelled) ≡ true → on (isThe "type") (name n ∷ r) g d ≡ g (n .at) r
+module _ {S : Type 0} (v : String) (n : Name) (r : List Word) (g : ℕ → List Word → Res S) (d : List Word → Res S) where
+  the-hit : same (bytes v) (n .spelled) ≡ true → on (isThe v) (name n ∷ r) g d ≡ g (n .at) r
   unfolding on isThe
   the-hit q = simp (on, isThe, q)
 
-  the-not : same (bytes "type") (n .spelled) ≡ false → on (isThe "type") (name n ∷ r) g d ≡ d (name n ∷ r)
+  the-not : same (bytes v) (n .spelled) ≡ false → on (isThe v) (name n ∷ r) g d ≡ d (name n ∷ r)
   unfolding on isThe
   the-not q = simp (on, isThe, q)
 
-module _ {text : List ℕ} {ms : List (List ℕ)} {w : List ℕ} {ws : List Word} (M : Marked text ms w ws) {S : Type 0} (x : ℕ) (g : ℕ → List Word → Res S) (d : List Word → Res S) where
-  two : kindAt w x ≡ 2 → getD w (4 * x) 0 ≡ 2
-  two e = sym (kind-is w x (kind-inside w x 2 (omega arith) e)) ∙ e
+module _ {text : List ℕ} {ms : List (List ℕ)} {w : List ℕ} {ws : List Word} (M : Marked text ms w ws) (v : String) (a b : ℕ)
+    (spelled : (i : ℕ) → i < count w → getD w (4 * i) 0 ≡ 2 → same (bytes v) (spelledAt text w i) ≡ (eqb (valueAt w i) a || eqb (valueAt w i) b))
+    {S : Type 0} (x : ℕ) (g : ℕ → List Word → Res S) (d : List Word → Res S) where
+  mark-same : kindAt w x ≡ 2 → same (bytes v) (spelledAt text w x) ≡ marked a b w x
+  mark-same k = let i = kind-inside w x 2 (omega arith) k in spelled x i (sym (kind-is w x i) ∙ k) ∙ sym (mark-two a b w x k)
 
-  pub on-type : theType w x ≡ true → on (isThe "type") (drop x ws) g d ≡ g (placeAt w x) (drop (x + 1) ws)
+  on-the : marked a b w x ≡ true → on (isThe v) (drop x ws) g d ≡ g (placeAt w x) (drop (x + 1) ws)
   unfolding wordOf
-  on-type e = let k = type-kind w x e in
-      ap (λ (l : List Word). on (isThe "type") l g d) (word M x 2 (omega arith) k)
-      ∙ the-hit (nameAt text w x) _ g d (M .the-type x (type-inside w x e) (two k) ∙ sym (type-two w x k) ∙ e)
+  on-the e = let k = mark-kind a b w x e in
+      ap (λ (l : List Word). on (isThe v) l g d) (word M x 2 (omega arith) k) ∙ the-hit v (nameAt text w x) _ g d (mark-same k ∙ e)
+
+  off-the : marked a b w x ≡ false → on (isThe v) (drop x ws) g d ≡ d (drop x ws)
+  unfolding wordOf
+  off-the e = go (eqb (kindAt w x) 2) refl
+    where
+      named : kindAt w x ≡ 2 → on (isThe v) (drop x ws) g d ≡ d (drop x ws)
+      named k = ap (λ (l : List Word). on (isThe v) l g d) (word M x 2 (omega arith) k)
+          ∙ the-not v (nameAt text w x) _ g d (mark-same k ∙ e) ∙ sym (ap d (word M x 2 (omega arith) k))
+
+      go : (b : Bool) → eqb (kindAt w x) 2 ≡ b → on (isThe v) (drop x ws) g d ≡ d (drop x ws)
+      go true q = named (eqb-true _ _ q)
+      go false q = on-miss M (isThe v) g d x (λ p l y. the-miss v text p l y (kindAt w x) (eqb-false (kindAt w x) 2 q))
+
+pub type-inside : (w : List ℕ) (x : ℕ) → theType w x ≡ true → x < count w
+unfolding theType isType
+type-inside w x e = mark-inside 2 6 w x e
+
+pub p-inside : (w : List ℕ) (x : ℕ) → theP w x ≡ true → x < count w
+unfolding theP isP
+p-inside w x e = mark-inside 1 5 w x e
+
+module _ {text : List ℕ} {ms : List (List ℕ)} {w : List ℕ} {ws : List Word} (M : Marked text ms w ws) {S : Type 0} (x : ℕ) (g : ℕ → List Word → Res S) (d : List Word → Res S) where
+  pub on-type : theType w x ≡ true → on (isThe "type") (drop x ws) g d ≡ g (placeAt w x) (drop (x + 1) ws)
+  unfolding theType isType
+  on-type e = on-the M "type" 2 6 (M .the-type) x g d e
 
   pub off-type : theType w x ≡ false → on (isThe "type") (drop x ws) g d ≡ d (drop x ws)
-  unfolding wordOf
-  off-type e = go (eqb (kindAt w x) 2) refl
-    where
-      named : kindAt w x ≡ 2 → on (isThe "type") (drop x ws) g d ≡ d (drop x ws)
-      named k = ap (λ (l : List Word). on (isThe "type") l g d) (word M x 2 (omega arith) k)
-          ∙ the-not (nameAt text w x) _ g d (M .the-type x (kind-inside w x 2 (omega arith) k) (two k) ∙ sym (type-two w x k) ∙ e) ∙ sym (ap d (word M x 2 (omega arith) k))
+  unfolding theType isType
+  off-type e = off-the M "type" 2 6 (M .the-type) x g d e
 
-      go : (b : Bool) → eqb (kindAt w x) 2 ≡ b → on (isThe "type") (drop x ws) g d ≡ d (drop x ws)
-      go true q = named (eqb-true _ _ q)
-      go false q = on-miss M (isThe "type") g d x (λ p l v. the-miss text p l v (kindAt w x) (eqb-false (kindAt w x) 2 q))
+  pub on-p : theP w x ≡ true → on (isThe "p") (drop x ws) g d ≡ g (placeAt w x) (drop (x + 1) ws)
+  unfolding theP isP
+  on-p e = on-the M "p" 1 5 (M .the-p) x g d e
+
+  pub off-p : theP w x ≡ false → on (isThe "p") (drop x ws) g d ≡ d (drop x ws)
+  unfolding theP isP
+  off-p e = off-the M "p" 1 5 (M .the-p) x g d e
 
 -- ---- what a reader answered, and then a fixed word
 

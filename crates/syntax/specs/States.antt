@@ -13,9 +13,9 @@ use Rattle.syntax.specs.Marks.{count, nameAt, Marked}
 use Rattle.syntax.specs.Meets.{On, Moved, Agrees, Met}
 use Rattle.syntax.specs.declared.Out.{Out}
 
--- the name stands at `at`
+-- the name stands at `at`, and the answer lies past it
 abbrev pub IsAssignment : List ℕ → ℕ → ℕ → List ℕ → Out → List ℕ → Type 0
-IsAssignment w at n t r t′ = Met flatAssignment 0 (λ text ms ws f. assignmentP ms f (nameAt text w at) (drop (at + 1) ws)) w at n t r t′
+IsAssignment w at n t r t′ = Met flatAssignment 0 (λ text ms ws f. assignmentP ms f (nameAt text w at) (drop (at + 1) ws)) w (at + 1) n t r t′
 
 -- the place of `val` is not on the tape
 abbrev pub IsVal : List ℕ → ℕ → ℕ → List ℕ → Out → List ℕ → Type 0

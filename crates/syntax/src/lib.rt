@@ -2,9 +2,11 @@
 // What comes in: the table of words, whose names are marked, and a lent tape. What goes out: the tape holds the
 // actor as items of three numbers, an operation, a place and a value; or the index of the first word that continues no actor.
 mod constants;
+mod entries;
 mod expressions;
 mod items;
 mod look;
+mod rules;
 mod statements;
 mod types;
 

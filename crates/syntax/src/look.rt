@@ -3,7 +3,8 @@ use crate::Out;
 use crate::Table;
 ghost use mathlib.Core.Path.{_≡_};
 ghost use Prim.Native.Nat.{ℕ, _+_, _≤_, _<_};
-ghost use Rattle.syntax.specs.Marks.{count, kindAt, placeAt, valueAt, isMark, isMemory, theType};
+ghost use Rattle.syntax.specs.Marks.{count, kindAt, placeAt, longAt, valueAt, isMark, isMemory, theP, theType};
+ghost use Rattle.syntax.specs.Tape.{one-if};
 ghost use Rattle.syntax.specs.Meets.{Inside, Sum, Within, Kind, Level, Stands, Closes, Ends};
 
 fn wide(x: u32) -> usize
@@ -26,6 +27,13 @@ pub fn place(words: &Table, at: usize) -> u32
     ensures { λ r. ⌜ r ≡ placeAt (now (words .entry)) at ⌝ }
 {
     words[4 * at + 1]
+}
+
+pub fn long(words: &Table, at: usize) -> u32
+    requires { ⌜ Within (now words) at ⌝ }
+    ensures { λ r. ⌜ r ≡ longAt (now (words .entry)) at ⌝ }
+{
+    words[4 * at + 2]
 }
 
 pub fn value(words: &Table, at: usize) -> u32
@@ -53,6 +61,20 @@ pub fn the_type(words: &Table, at: usize) -> bool
     if k == 2 {
         let v = value(words, at);
         v == 2 || v == 6
+    } else {
+        false
+    }
+}
+
+// Whether the name `p` stands at an index.
+pub fn the_p(words: &Table, at: usize) -> bool
+    requires { ⌜ Inside (now words) at ⌝ }
+    ensures { λ r. ⌜ r ≡ theP (now (words .entry)) at ⌝ }
+{
+    let k = kind(words, at);
+    if k == 2 {
+        let v = value(words, at);
+        v == 1 || v == 5
     } else {
         false
     }
@@ -87,156 +109,31 @@ pub fn closed(words: &Table, o: Out, kw: u32) -> Out
     }
 }
 
-// The level of each kind of word: the tightest operators have 0, and what is no operator 9.
-const LEVELS: [u32; 65] = [
-    9,
-    9,
-    9,
-    9,
-    9,
-    9,
-    9,
-    9,
-    9,
-    9,
-    9,
-    9,
-    9,
-    9,
-    9,
-    9,
-    9,
-    9,
-    9,
-    9,
-    9,
-    9,
-    9,
-    9,
-    9,
-    4,
-    4,
-    2,
-    3,
-    2,
-    3,
-    7,
-    8,
-    5,
-    6,
-    5,
-    9,
-    9,
-    9,
-    9,
-    9,
-    9,
-    9,
-    9,
-    9,
-    9,
-    9,
-    9,
-    3,
-    3,
-    9,
-    9,
-    5,
-    6,
-    5,
-    1,
-    1,
-    0,
-    0,
-    0,
-    9,
-    9,
-    9,
-    9,
-    9,
-];
+// The level of each kind of word, a figure each: the tightest operators have 0, and what is no operator 9.
+const LEVELS: [u8; 65] = *b"99999999999999999999999994423237856599999999999933995651100099999";
 
 pub fn level(k: u32) -> u32
     ensures { λ r. ⌜ Level k r ⌝ }
 {
     let i = wide(k);
-    if i < 65 { LEVELS[i] } else { 9 }
+    if i < 65 { (LEVELS[i] - 48) as u32 } else { 9 }
 }
 
 // 1 at the operators that may stand before their operand: ~& ~| ~^ ! ~ & | ^ +
-const MARKS: [u32; 65] = [
-    0,
-    0,
-    0,
-    0,
-    0,
-    0,
-    0,
-    0,
-    0,
-    0,
-    0,
-    0,
-    0,
-    0,
-    0,
-    0,
-    0,
-    0,
-    0,
-    0,
-    0,
-    0,
-    0,
-    0,
-    0,
-    0,
-    0,
-    0,
-    0,
-    0,
-    0,
-    0,
-    0,
-    1,
-    1,
-    1,
-    0,
-    0,
-    0,
-    0,
-    0,
-    0,
-    0,
-    0,
-    0,
-    0,
-    0,
-    0,
-    0,
-    0,
-    1,
-    1,
-    1,
-    1,
-    1,
-    1,
-    0,
-    0,
-    0,
-    0,
-    0,
-    0,
-    0,
-    0,
-    0,
-];
+const MARKS: [u8; 65] = *b"00000000000000000000000000000000011100000000000000111111000000000";
+
+fn mark(i: usize) -> u32
+    requires { ⌜ i < 65 ⌝ }
+    ensures { λ r. ⌜ r ≡ one-if (isMark i) ⌝ }
+{
+    (MARKS[i] - 48) as u32
+}
 
 pub fn prefix(k: u32) -> bool
     ensures { λ r. ⌜ r ≡ isMark k ⌝ }
 {
     let i = wide(k);
-    if i < 65 { MARKS[i] == 1 } else { false }
+    if i < 65 { mark(i) == 1 } else { false }
 }
 
 // Whether an arm's expression ends at a word: a `|`, then a number and `=>`, or `_`.

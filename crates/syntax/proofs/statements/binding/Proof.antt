@@ -6,16 +6,13 @@ use Prim.Native.Nat.{ℕ, suc, _≤_, _+_, _*_, _-_}
 use Rattle.language.specs.Tree.{untyped, Declared}
 use Rattle.syntax.specs.Tape.{flatD, isTyped, flatVal, flatAssignment}
 use Rattle.syntax.specs.Meets.{On, Went, Stopped, MovedTo, Moved, Agrees, read, fault}
-use Rattle.syntax.proofs.Laws.{on-more, on-as, moved-at, moved-bad, moved-more, stands}
+use Rattle.syntax.proofs.Laws.{on-more, on-value, moved-at, moved-bad, moved-more, stands}
 use Rattle.syntax.proofs.Spells.{expect-at, expect-bad, until-at, until-bad, until2-at, until2-bad, closed-at, closed-bad, closed-moved}
 use Rattle.syntax.proofs.Operands.{s-greater, s-bracket, s-unbracket}
 use Rattle.syntax.proofs.Stated.{s-equals, s-semicolon, assignment-plain, assignment-memory, val-untyped, val-typed, binding-name, binding-none}
 use borrow.Author.Needs.{needs}
 use Rattle.syntax.proofs.statements.binding.Statement.{statement}
 use Rattle.syntax.proofs.statements.binding.Tie as tie
-
-on-value : {s t : List ℕ} {b n op p v v′ : ℕ} → v ≡ v′ → On s b (op ∷ p ∷ v ∷ []) n t → On s b (op ∷ p ∷ v′ ∷ []) n t
-on-value {op} {p} e o = on-as (ap (λ (v : ℕ). op ∷ p ∷ v ∷ []) e) o
 
 kind-requires : tie.Need-kind-requires
 kind-requires c κs = search needs
