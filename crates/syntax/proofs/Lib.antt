@@ -9,4 +9,5 @@ mod Turns
 mod Stated
 mod Lists
 mod Commas
+mod Declarations
 mod Ruled

@@ -53,19 +53,23 @@ module _ {text : List ℕ} {ms : List (List ℕ)} {w : List ℕ} {ws : List Word
   unfolding assignmentP
   assignment-memory e q = simp (assignmentP, among-at e ∙ q)
 
+  -- a declared type, or none, and what is made of it
+  module _ {T : Type 0} (g : Declared → List Word → Res T) where
+    pub declared-none : (kindAt w at ≡ 48 → ⊥) → bind (declaredP f (drop at ws)) g ≡ g untyped (drop at ws)
+    unfolding bind declaredP
+    declared-none h = ap (λ (u : Res Declared). bind u g) (off-is M "<" 48 at s-less _ _ h)
+
+    pub declared-some : kindAt w at ≡ 48 → bind (declaredP f (drop at ws)) g ≡ until (typeP f (drop (at + 1) ws)) ">" (λ t q x. g (Declared.typed t) x)
+    unfolding declaredP
+    declared-some e = ap (λ (u : Res Declared). bind u g) (on-is M "<" 48 at s-less _ _ e) ∙ bind-until (typeP f (drop (at + 1) ws)) ">" (λ t. Declared.typed t) g
+
   pub val-untyped : (kindAt w at ≡ 48 → ⊥) → valP ms f 0 (drop at ws) ≡ bindingP ms f untyped (drop at ws)
-  unfolding valP bindingP bind declaredP
-  val-untyped h = ap (λ (u : Res Declared). bind u (λ t x. bindingP ms f t x)) declared-none
-    where
-      declared-none : declaredP f (drop at ws) ≡ ok untyped (drop at ws)
-      declared-none = off-is M "<" 48 at s-less _ _ h
+  unfolding valP bindingP
+  val-untyped h = declared-none (λ t x. bindingP ms f t x) h
 
   pub val-typed : kindAt w at ≡ 48 → valP ms f 0 (drop at ws) ≡ until (typeP f (drop (at + 1) ws)) ">" (λ t q x. bindingP ms f (Declared.typed t) x)
-  unfolding valP bindingP declaredP
-  val-typed e = ap (λ (u : Res Declared). bind u (λ t x. bindingP ms f t x)) declared-some ∙ bind-until (typeP f (drop (at + 1) ws)) ">" (λ t. Declared.typed t) (λ t x. bindingP ms f t x)
-    where
-      declared-some : declaredP f (drop at ws) ≡ until (typeP f (drop (at + 1) ws)) ">" (λ t q x. ok (Declared.typed t) x)
-      declared-some = on-is M "<" 48 at s-less _ _ e
+  unfolding valP bindingP
+  val-typed e = declared-some (λ t x. bindingP ms f t x) e
 
   pub binding-name : (d : Declared) → kindAt w at ≡ 2 → bindingP ms f d (drop at ws)
       ≡ expect "=" (drop (at + 1) ws) (λ q z. until (exprP ms f false z) ";" (λ e s l. ok (record { type = d; called = nameAt text w at; value = e }) l))

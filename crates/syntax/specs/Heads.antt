@@ -37,16 +37,16 @@ module _ (w : List ℕ) (at n : ℕ) (t : List ℕ) (r : Out) (t′ : List ℕ) 
   abbrev pub IsSignature : Type 0
   IsSignature = Met (flats flatSigned) 1 (λ text ms ws f. commasP (λ f l. nameP f l) f (drop at ws)) w at n t r t′
 
-  -- `input` (i is true) or `output` stands at `at`
+  -- `input` (i is true) or `output` stands at `at`: the answer lies past it
   abbrev pub IsPort : Bool → Type 0
-  IsPort i = Met flatPort 0 (λ text ms ws f. portP f i (drop (at + 1) ws)) w at n t r t′
+  IsPort i = Met flatPort 0 (λ text ms ws f. portP f i (drop (at + 1) ws)) w (at + 1) n t r t′
 
   abbrev pub IsPorts : Type 0
   IsPorts = Met (flats flatPort) 1 (λ text ms ws f. manyP isWay (λ f i r. portP f i r) f (drop at ws)) w at n t r t′
 
-  -- `reg` (i is true) or `ff` stands at `at`: what is read is the same
+  -- `reg` (i is true) or `ff` stands at `at`: the answer lies past it, and what is read is the same
   abbrev pub IsMemory : Bool → Type 0
-  IsMemory i = Met flatMemory 0 (λ text ms ws f. memoryP f i (drop (at + 1) ws)) w at n t r t′
+  IsMemory i = Met flatMemory 0 (λ text ms ws f. memoryP f i (drop (at + 1) ws)) w (at + 1) n t r t′
 
   abbrev pub IsMemories : Type 0
   IsMemories = Met (flats flatMemory) 1 (λ text ms ws f. manyP isStore (λ f i r. memoryP f i r) f (drop at ws)) w at n t r t′

@@ -4,6 +4,7 @@
 mod constants;
 mod entries;
 mod expressions;
+mod heads;
 mod items;
 mod look;
 mod rules;
