@@ -1,10 +1,12 @@
-// The first fault of each text of a list, by rows 2, 3 and 4 of document 01, or else the words' kinds and places.
+// The first fault of each text of a list, by rows 1 to 5 of document 01, or else its tape.
 // What comes in, on standard input: byte count, newline and bytes of an actor, the same of its bindings, and so on.
-// What goes out: a line for each pair, the row and the place of its first fault, or 0 and two numbers for each word.
+// What goes out: for each pair the row and the place of its fault in rows 2 to 4, or 0, kinds and places of the words, a sized constant's value after it; then those of row 5 (or 1), or 0 and the tape.
 ghost use Prim.Native.Nat.{_+_, _*_, _≤_, _<_};
 ghost use lib.ListN.{length};
 use libc::STDIN_FILENO;
 use libc::STDOUT_FILENO;
+
+const BYTES: usize = language::Actor::BYTES as usize;
 
 struct Numeral {
     value: usize,
@@ -46,8 +48,21 @@ fn part_end(len: usize, from: usize, n: usize) -> usize
     if n <= len - from { from + n } else { len }
 }
 
+// The value of a sized constant.
+fn say_constant(actor: &[u8], at: u32) {
+    match words::constant(actor, at as usize) {
+        words::Amount::Exact(x) => {
+            io::print_decimal(STDOUT_FILENO, x);
+            io::write_all(STDOUT_FILENO, b" ");
+        }
+        words::Amount::TooBig => {
+            io::write_all(STDOUT_FILENO, b"big ");
+        }
+    }
+}
+
 // The words, if none is left out.
-fn show(table: &[u32], n: usize)
+fn show(actor: &[u8], table: &[u32], n: usize)
     requires { ⌜ 4 * n ≤ length (now table) ⌝ }
 {
     say(0, b" ");
@@ -55,44 +70,71 @@ fn show(table: &[u32], n: usize)
     while i < n {
         say(table[4 * i], b" ");
         say(table[4 * i + 1], b" ");
+        if table[4 * i] == 3 {
+            say_constant(actor, table[4 * i + 1]);
+        }
         i += 1;
     }
     io::write_all(STDOUT_FILENO, b"\n");
 }
 
-fn told(table: &[u32], words: u32) {
+// The numbers of a tape.
+fn show_tape(tape: &syntax::Tape, length: u32) {
+    say(0, b" ");
+    let n = part_end(24576, 0, length as usize);
+    let mut i = 0;
+    while i < n {
+        say(tape[i], b" ");
+        i += 1;
+    }
+    io::write_all(STDOUT_FILENO, b"\n");
+}
+
+fn fault_at(row: u32, place: u32) {
+    say(row, b" ");
+    say(place, b"\n");
+}
+
+// The actor's tape, or its fault.
+fn read(actor: &[u8]) {
+    let mut tape = [0u32; 24576];
+    match syntax::read(actor, &mut tape) {
+        syntax::Said::Tape(n) => show_tape(&tape, n),
+        syntax::Said::Refused(row, place) => fault_at(row, place),
+    }
+}
+
+fn told(actor: &[u8], table: &[u32], words: u32) {
     let n = words as usize;
     if table.len() / 4 < n {
         return;
     }
     match words::left_out(table, n) {
-        words::Place::At(p) => {
-            say(4, b" ");
-            say(p, b"\n");
+        words::Place::At(p) => fault_at(4, p),
+        words::Place::Nowhere => {
+            show(actor, table, n);
+            read(actor);
         }
-        words::Place::Nowhere => show(table, n),
     }
 }
 
 fn actor_fault(actor: &[u8], table: &mut [u32]) {
     match words::words(actor, table) {
-        words::Found::Words(n) => told(table, n),
-        words::Found::Bad(p) => {
-            say(3, b" ");
-            say(p, b"\n");
-        }
-        words::Found::NoRoom => say(1, b"\n"),
+        words::Found::Words(n) => told(actor, table, n),
+        words::Found::Bad(p) => fault_at(3, p),
+        words::Found::NoRoom => read(actor),
     }
 }
 
 fn fault(actor: &[u8], bindings: &[u8], table: &mut [u32]) {
+    if BYTES < actor.len() {
+        read(actor);
+        return;
+    }
     match bindings::read(bindings, table) {
         bindings::Answer::Bound(_, _) => actor_fault(actor, table),
-        bindings::Answer::Wrong(p) => {
-            say(2, b" ");
-            say(p, b"\n");
-        }
-        bindings::Answer::NoRoom => say(1, b"\n"),
+        bindings::Answer::Wrong(p) => fault_at(2, p),
+        bindings::Answer::NoRoom => fault_at(1, language::Bindings::BYTES),
     }
 }
 

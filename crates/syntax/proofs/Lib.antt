@@ -9,5 +9,8 @@ mod Turns
 mod Stated
 mod Lists
 mod Commas
-mod Declarations
 mod Ruled
+mod Declarations
+mod Marked
+mod Heading
+mod Whole

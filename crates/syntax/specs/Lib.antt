@@ -4,5 +4,7 @@ pub mod Meets
 pub mod States
 pub mod Rules
 pub mod Tails
-pub mod Declares
 pub mod Heads
+pub mod Declares
+pub mod Marking
+pub mod Read

@@ -7,7 +7,7 @@ ghost use Rattle.syntax.specs.Marks.{count, kindAt, placeAt, longAt, val
 ghost use Rattle.syntax.specs.Tape.{one-if};
 ghost use Rattle.syntax.specs.Meets.{Inside, Sum, Within, Kind, Level, Stands, Closes, Ends};
 
-fn wide(x: u32) -> usize
+pub fn wide(x: u32) -> usize
     ensures { λ r. ⌜ r ≡ x ⌝ }
 {
     x as usize

@@ -5,3 +5,4 @@ pub mod Digits
 pub mod Parts
 pub mod Whole
 pub mod Back
+pub mod Runs

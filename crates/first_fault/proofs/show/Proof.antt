@@ -1,14 +1,15 @@
 -- `first_fault::show` ends, and reads inside the table. Assumes nothing.
 use borrow.Author.Needs.{needs}
+use native.Mathlib.Omega.{arith}
 use Prim.Native.Nat.{_≤_, _-_}
 use Rattle.first_fault.proofs.show.Statement.{statement}
 use Rattle.first_fault.proofs.show.Tie as tie
 
 abbrev Inv-loop : tie.InvT-loop
-Inv-loop table n i₀ t5 t6 t7 i = i ≤ n
+Inv-loop actor table n i₀ t6 t7 t8 i = i ≤ n
 
 abbrev μ-loop : tie.MeasureT-loop
-μ-loop table n i₀ t5 t6 t7 i = n - i
+μ-loop actor table n i₀ t6 t7 t8 i = n - i
 
 slice-aggregate-say : tie.Need-slice-aggregate-say Inv-loop μ-loop
 slice-aggregate-say c = search needs
@@ -52,6 +53,30 @@ slice-aggregate-say-3 c = search needs
 say-requires-3 : tie.Need-say-requires-3 Inv-loop μ-loop
 say-requires-3 c κs = search needs
 
+mul-if1 : tie.Need-mul-if1 Inv-loop μ-loop
+mul-if1 c = search needs
+
+mul-if1-2 : tie.Need-mul-if1-2 Inv-loop μ-loop
+mul-if1-2 c = search needs
+
+shared-slice-read-if1 : tie.Need-shared-slice-read-if1 Inv-loop μ-loop
+shared-slice-read-if1 c = search needs
+
+mul-say-constant : tie.Need-mul-say-constant Inv-loop μ-loop
+mul-say-constant c = search needs
+
+add-say-constant : tie.Need-add-say-constant Inv-loop μ-loop
+add-say-constant c = search needs
+
+mul-say-constant-2 : tie.Need-mul-say-constant-2 Inv-loop μ-loop
+mul-say-constant-2 c = search needs
+
+shared-slice-read-say-constant : tie.Need-shared-slice-read-say-constant Inv-loop μ-loop
+shared-slice-read-say-constant c = search needs
+
+say-constant-requires : tie.Need-say-constant-requires Inv-loop μ-loop
+say-constant-requires c κs = search needs
+
 add-i : tie.Need-add-i Inv-loop μ-loop
 add-i c = search needs
 
@@ -73,5 +98,6 @@ returns c = search needs
 pub show-spec : {M : Type 1} → statement M
 show-spec =
     tie.close (tie.spec Inv-loop μ-loop slice-aggregate-say say-requires loop-holds mul-say mul-say-2 shared-slice-read-say slice-aggregate-say-2
-    say-requires-2 mul-say-3 add-say mul-say-4 shared-slice-read-say-2 slice-aggregate-say-3 say-requires-3 add-i loop-less loop-again
+    say-requires-2 mul-say-3 add-say mul-say-4 shared-slice-read-say-2 slice-aggregate-say-3 say-requires-3 mul-if1 mul-if1-2 shared-slice-read-if1
+    mul-say-constant add-say-constant mul-say-constant-2 shared-slice-read-say-constant say-constant-requires add-i loop-less loop-again
     slice-aggregate-write-all write-all-requires returns)
