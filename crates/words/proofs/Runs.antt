@@ -1,4 +1,4 @@
--- What stands first in a text takes a byte at least, and a name is the longest run of name bytes at its place: so there are at most as many words as bytes, and a place decides its name. Assumes nothing.
+-- What stands first in a text takes a byte at least, a name is the longest run of name bytes at its place, and a sized constant's digits are those after its `'`: so there are at most as many words as bytes, and a place decides its name or its value. Assumes nothing.
 use mathlib.Core.Path.{_≡_, refl, sym, ap, _∙_}
 use mathlib.Core.Bool.{Bool, true, false, _&&_}
 use mathlib.Core.List.{List, [], _∷_, _++_}
@@ -12,15 +12,16 @@ use lib.ListN.{length, drop, getD}
 use lib.Seq.{drop-drop, drop-cons}
 use Rattle.language.specs.Text.{same}
 use Rattle.language.specs.Words.{Word, num, name, digits, fixed, Next, over, apart, word, wrong, bytes, begins, span, digit, nameByte, digitIn, gap, baseOf, valueInBase, namedNext, ownName, numberNext, nameNext, quoteNext, first-of, left-out, keywords, signs, signNext, next, Lexed, words, badAt, push, wordsFrom, wordsOf}
+use Rattle.words.specs.Constant.{constantAt}
 use Rattle.words.proofs.Whole.{clash, from-over, from-wrong, from-apart, from-word}
 use Rattle.words.proofs.Parts.{next-over, next-apart, next-number, next-name, next-quote, next-open, next-sign, quote-over, quote-split}
 use Rattle.words.proofs.Spelled.{both-left, both-right}
 
--- a name is the run of name bytes at its place
+-- a name is the run of name bytes at its place, and the value of a sized constant is that of the digits there
 unfoldable pub IsRun : List ℕ → Word → Type 0
 IsRun text (num n) = Unit {0}
 IsRun text (name n) = n .spelled ≡ span nameByte (drop (n .at) text)
-IsRun text (digits n) = Unit {0}
+IsRun text (digits n) = n .value ≡ constantAt text (n .at)
 IsRun text (fixed s p) = Unit {0}
 
 unfoldable Firsts : List ℕ → ℕ → Next → Type 0
@@ -49,12 +50,16 @@ name-firsts text p run h q = go (ownName run) refl
         rest none f = rw f tt
         rest (some s) f = rw f (h, tt)
 
-quote-firsts : (text : List ℕ) (p b : ℕ) (r : List ℕ) → Firsts text p (quoteNext (b ∷ r))
+constant-is : (text : List ℕ) (p : ℕ) (l : List ℕ) → span (digitIn (baseOf (getD text (p + 1) 0))) (drop (p + 2) text) ≡ l → valueInBase (baseOf (getD text (p + 1) 0)) 0 l ≡ constantAt text p
+unfolding constantAt
+constant-is text p l s = ap (valueInBase (baseOf (getD text (p + 1) 0)) 0) (sym s)
+
+quote-firsts : (text : List ℕ) (p b : ℕ) (r : List ℕ) → ((l : List ℕ) → span (digitIn (baseOf b)) r ≡ l → valueInBase (baseOf b) 0 l ≡ constantAt text p) → Firsts text p (quoteNext (b ∷ r))
 unfolding Firsts quoteNext IsRun
-quote-firsts text p b r = go (span (digitIn (baseOf b)) r) refl
+quote-firsts text p b r c = go (span (digitIn (baseOf b)) r) refl
   where
     go : (l : List ℕ) → span (digitIn (baseOf b)) r ≡ l → Firsts text p (quoteNext (b ∷ r))
-    go (d ∷ ds) s = simp (quoteNext, s) (omega arith, tt)
+    go (d ∷ ds) s = simp (quoteNext, s) (omega arith, c (d ∷ ds) s)
     go [] s = simp (quoteNext, s) (either (eqb (baseOf b) 10 && namedNext r))
       where
         either : (t : Bool) → Firsts text p (elim t as (λ (x : Bool). Next) [ true ↦ word 2 (fixed "'d") | false ↦ wrong ])
@@ -90,7 +95,7 @@ sign-firsts text p bs = go (first-of signs (λ s. begins s bs)) refl
 quoted-at : (text : List ℕ) (p : ℕ) (b : Bool) → leb (length text) (p + 1) ≡ b → Firsts text p (quoteNext (drop (p + 1) text))
 unfolding Firsts
 quoted-at text p true h = rw (quote-over text (p + 1) (leb-true _ _ h)) tt
-quoted-at text p false h = rw (quote-split text p (leb-false _ _ h)) (quote-firsts text p _ _)
+quoted-at text p false h = rw (quote-split text p (leb-false _ _ h)) (quote-firsts text p _ _ (constant-is text p))
 
 -- a run whose first byte passes is not empty
 span-some : (t : ℕ → Bool) (text : List ℕ) (p : ℕ) → p < length text → t (getD text p 0) ≡ true → 0 < length (span t (drop p text))
@@ -131,7 +136,7 @@ pub data AllRuns (text : List ℕ) : List Word → Type 0 where
   noMore : AllRuns text []
   more : {w : Word} {ws : List Word} → IsRun text w → AllRuns text ws → AllRuns text (w ∷ ws)
 
--- the words from a place on: their names are runs, and there are at most as many as bytes are left
+-- the words from a place on: their names and constants are as the text has them, and there are at most as many as bytes are left
 record Ran (text : List ℕ) (p : ℕ) (ws : List Word) : Type 0 where
   runs : AllRuns text ws
   few : length ws ≤ length text - p

@@ -1,0 +1,3 @@
+pub mod Placed
+pub mod Members
+pub mod Earliest
