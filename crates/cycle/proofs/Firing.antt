@@ -7,8 +7,9 @@ use native.Mathlib.Numerals.{add-one}
 use native.Mathlib.Omega.{arith}
 use lib.Dec.{eqb, leb, ltb}
 use lib.ListN.{length, getD, set, take}
+use lib.Bits.{bitOr, or-lt, or-add-and, and-le-l, and-le-r}
 use lib.Seq.{take-suc-set}
-use borrow.Author.Tests.{eq-eqb, ne-eqb, eqb-true, eqb-false}
+use borrow.Author.Tests.{eq-eqb, ne-eqb, eqb-true, eqb-false, lt-ltb, le-ltb, ltb-true, ltb-false}
 use Rattle.language.specs.Values.{bitOf}
 use Rattle.value.specs.Masks.{bitMatches, matchesIn}
 use Rattle.value.specs.Masks.{matchesOf as Masks·matchesOf}
@@ -20,6 +21,15 @@ use Rattle.cycle.specs.Fire.{answerOf, firedAt}
 pub below-next : (p : List ℕ) (n : ℕ) (f : ℕ → Bool) {a b : Bool} → a ≡ allBelow p n f → b ≡ f n → (a && b) ≡ allBelow p (n + 1) f
 unfolding allBelow
 below-next p n f d e = rw (add-one n) (ap₂ _&&_ d e)
+
+-- the bits of two numbers together fit a width where both numbers do
+pub or-within : (a b w : ℕ) → ltb (bitOr a b) (2 ^ w) ≡ (ltb a (2 ^ w) && ltb b (2 ^ w))
+or-within a b w = go (ltb a (2 ^ w)) (ltb b (2 ^ w)) refl refl
+  where
+    go : (x y : Bool) → ltb a (2 ^ w) ≡ x → ltb b (2 ^ w) ≡ y → ltb (bitOr a b) (2 ^ w) ≡ (x && y)
+    go true true d e = lt-ltb (bitOr a b) (2 ^ w) (or-lt w a b (ltb-true a (2 ^ w) d) (ltb-true b (2 ^ w) e))
+    go true false d e = let h : 2 ^ w ≤ b = ltb-false b (2 ^ w) e in le-ltb (bitOr a b) (2 ^ w) (omega (arith, h, or-add-and a b, and-le-l a b))
+    go false y d e = let h : 2 ^ w ≤ a = ltb-false a (2 ^ w) d in le-ltb (bitOr a b) (2 ^ w) (omega (arith, h, or-add-and a b, and-le-r a b))
 
 -- the cells of a memory are among those of the memories up to n
 pub cells-within : (p : List ℕ) (m n : ℕ) → m < n → cellsBefore p m + memorySizeAt p m ≤ cellsBefore p n

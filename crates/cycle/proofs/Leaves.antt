@@ -13,7 +13,7 @@ use Rattle.plan.specs.declared.Item.the-variants.{Const, Port, Let, Cell, Range
 use Rattle.plan.specs.Steps.{top, takesOf, actsOf}
 use Rattle.cycle.specs.Machine.{State, state, cellOf, writeTo, exec1}
 use Rattle.cycle.specs.Ready.{valueOf, Asks, Ready, Buffered, Left}
-use Rattle.plan.proofs.Waits.{length-top, top-push, top-drop}
+use Rattle.plan.proofs.Waits.{length-top}
 
 pub cell-in : (memory : List ℕ) (f n a : ℕ) → a < n → getD memory (f + a) 0 ≡ cellOf memory f n a
 unfolding cellOf
@@ -81,9 +81,6 @@ module _ (values memory s : List ℕ) (n : ℕ) (ls os : List ℕ) (qs : List (C
       → state (top s (n - 2)) ls os (writeTo f size x y qs) ≡ exec1 values memory i (state (top s n) ls os qs)
   writes {i} {m} {f} {size} x y j h d e = rw (j, d, e) (sym (ap (λ (vs : List ℕ). exec1 values memory (Write m f size) (state vs ls os qs)) (top-2 s n h)))
 
-pub asks-of : {values memory s : List ℕ} {n : ℕ} {ls os : List ℕ} {i : Item} (x y : ℕ) → Ready values memory s n ls os i → x ≡ getD (top s n) 1 0 → y ≡ getD (top s n) 0 0 → Asks values memory ls os x y i
-asks-of x y r d e = rw (d, e) (r .asks)
-
 -- ---- what a step leaves
 
 pub left-as : (memory stack : List ℕ) (n : ℕ) (slots outputs next marks : List ℕ) (clash : Bool) (qs : List (Change ℕ)) {s : State}
@@ -92,12 +89,9 @@ left-as memory stack n slots outputs next marks clash qs e b =
     subst (λ (s : State). Left memory stack n slots outputs next marks clash s) e (record { waits = refl; slot = refl; output = refl; write = b })
 
 -- a value in place of those that an item takes
-pub value-left : (values memory s : List ℕ) (n k : ℕ) (ls os : List ℕ) (qs : List (Change ℕ)) (i : Item) (v c x y : ℕ) → actsOf i ≡ false → length s ≡ 256
-    → Ready values memory s n ls os i → k ≡ takesOf i → c ≡ getD (top s n) 2 0 → x ≡ getD (top s n) 1 0 → y ≡ getD (top s n) 0 0 → v ≡ valueOf values memory ls c x y i
-    → state (top (set s (n - k) v) (n - k + 1)) ls os qs ≡ exec1 values memory i (state (top s n) ls os qs)
-value-left values memory s n k ls os qs i v c x y h l r ek ec ex ey ev =
-    let t : takesOf i ≤ length (top s n) = rw (length-top s n) (r .there) in
-    let w : n - takesOf i < length s = omega (arith, r .room) in
-    sym (leave values memory i (top s n) ls os qs (getD (top s n) 1 0) (getD (top s n) 0 0) h t (r .asks)
-    ∙ ap (λ (vs : List ℕ). state (valueOf values memory ls (getD (top s n) 2 0) (getD (top s n) 1 0) (getD (top s n) 0 0) i ∷ vs) ls os qs) (top-drop s n (takesOf i) (r .there))
-    ∙ rw (ek, ev, ec, ex, ey) (ap (λ (vs : List ℕ). state vs ls os qs) (sym (top-push s (n - takesOf i) (valueOf values memory ls (getD (top s n) 2 0) (getD (top s n) 1 0) (getD (top s n) 0 0) i) w))))
+pub value-left : (values memory s t : List ℕ) (n r : ℕ) (ls os : List ℕ) (qs : List (Change ℕ)) (i : Item) → actsOf i ≡ false → Ready values memory s n ls os i
+    → top t r ≡ valueOf values memory ls (getD (top s n) 2 0) (getD (top s n) 1 0) (getD (top s n) 0 0) i ∷ drop (takesOf i) (top s n)
+    → state (top t r) ls os qs ≡ exec1 values memory i (state (top s n) ls os qs)
+value-left values memory s t n r ls os qs i h q e =
+    let k : takesOf i ≤ length (top s n) = rw (length-top s n) (q .there) in
+    ap (λ (vs : List ℕ). state vs ls os qs) e ∙ sym (leave values memory i (top s n) ls os qs (getD (top s n) 1 0) (getD (top s n) 0 0) h k (q .asks))

@@ -16,10 +16,10 @@ use Rattle.plan.specs.Sound.{soundOf, sectionsOk, allUpTo, portOk}
 use Rattle.plan.specs.Steps.{portsPart, memoriesPart, groupsPart, rulesPart}
 use Rattle.plan.proofs.Parts.{sections-parts}
 use Rattle.plan.proofs.Laws.{and-left, and-right}
-use Rattle.cycle.specs.Machine.{soundCycle, cycleOf}
-use Rattle.cycle.specs.Turn.{Turned}
+use Rattle.cycle.specs.Machine.{soundCycle, cycleOf, counts}
+use Rattle.cycle.specs.Turn.{Turned, outcome}
 use Rattle.cycle.specs.Run.{Result, result, before, turnsOf, tablesFit, runOf}
-use Rattle.cycle.proofs.Outcomes.{cycle-sound}
+use Rattle.cycle.proofs.Outcomes.{cycle-sound, counts-told}
 
 -- k cycles are over: what they left, and what those after them will leave
 pub record Runs (p masks values memory₀ outputs₀ : List ℕ) (k at : ℕ) (memory outputs answers : List ℕ) : Type 0 where
@@ -145,3 +145,23 @@ ports-some p h =
     (and-left (eqb (form p) 1 && leb 1 (portCount p)) (leb (portCount p) 16)
     (and-left (eqb (form p) 1 && leb 1 (portCount p) && leb (portCount p) 16) (allUpTo p (portCount p) (portOk p))
     (and-left (portsPart p) (memoriesPart p && (groupsPart p && rulesPart p)) (sym (sections-parts p) ∙ h)))))
+
+-- ---- a cycle by itself is a run of one
+
+pub one-fits : (p values memory outs : List ℕ) (mask : ℕ) → counts p values memory outs ≡ true → tablesFit p (mask ∷ []) values memory outs (0 ∷ 0 ∷ []) ≡ true
+unfolding tablesFit
+one-fits p values memory outs mask h =
+    let t = counts-told p values memory outs h in
+    let e : length (mask ∷ []) * portCount p ≡ portCount p = omega arith in
+    ap₂ _&&_ (ap₂ _&&_ (ap₂ _&&_ (eq-eqb (length values) (length (mask ∷ []) * portCount p) (t .0 ∙ sym e)) (eq-eqb (length outs) (length (mask ∷ []) * portCount p) (t .1 ∙ sym e))) refl)
+    (eq-eqb (length memory) (cellsBefore p (memoryCount p)) (t .2))
+
+pub one-cycle : (p : List ℕ) (mask : ℕ) (values memory outs m o a : List ℕ) → counts p values memory outs ≡ true → result 0 m o a ≡ turnsOf p (mask ∷ []) values memory outs
+    → outcome (getD a 0 0) (getD a 1 0) o m ≡ cycleOf p mask values memory outs
+unfolding turnsOf before
+one-cycle p mask values memory outs m o a h e =
+    let t = counts-told p values memory outs h in
+    let v : take (portCount p) values ≡ values = take-all (portCount p) values (omega (arith, t .0)) in
+    let w : take (portCount p) outs ≡ outs = take-all (portCount p) outs (omega (arith, t .1)) in
+    ap (λ (r : Result). outcome (getD (r .answers) 0 0) (getD (r .answers) 1 0) (r .outputs) (r .memory)) e
+    ∙ rw (v, w) (ap (λ (l : List ℕ). outcome (cycleOf p mask values memory outs .answer) (cycleOf p mask values memory outs .count) l (cycleOf p mask values memory outs .memory)) (append-nil (cycleOf p mask values memory outs .outputs)))

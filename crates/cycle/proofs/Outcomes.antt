@@ -125,21 +125,6 @@ pub refused-as : (p memory outs : List ℕ) (a : ℕ) {o : Outcome} → o ≡ re
 unfolding refusedBy
 refused-as p memory outs a e = sym e
 
-paste-all : (d s : List ℕ) (n : ℕ) → length d ≡ n → length s ≡ n → paste d 0 s n ≡ s
-paste-all d s n h l =
-    let e : 0 + n ≡ n = omega arith in
-    let k : length d ≤ n = omega arith in
-    let j : length s ≤ n = omega arith in
-    rw (e, drop-of-length-le d k, take-all n s j) (append-nil s)
-
--- where the table is the cycle's own
-pub turned-own : (p : List ℕ) (mask : ℕ) (values memory old : List ℕ) (n answer count : ℕ) (m outputs : List ℕ) → length old ≡ n
-    → Turned (soundCycle p mask values memory (take n (drop 0 old))) answer count m outputs old 0 n → outcome answer count outputs m ≡ soundCycle p mask values memory old
-turned-own p mask values memory old n answer count m outputs h t =
-    let e : take n (drop 0 old) ≡ old = take-all n old (omega arith) in
-    let r = t .slots ∙ paste-all old (soundCycle p mask values memory (take n (drop 0 old)) .outputs) n h (t .long) in
-    rw (t .answers, t .counts, r, t .cells, e)
-
 cells-bound : (p : List ℕ) (h : sectionsOk p ≡ true) (n : ℕ) → n ≤ memoryCount p → cellsBefore p n ≤ 256
 unfolding cellsBefore memoryFits
 cells-bound p h zero l = omega arith

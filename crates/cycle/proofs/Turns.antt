@@ -7,6 +7,7 @@ use native.Mathlib.Omega.{arith}
 use lib.ListN.{length, getD, take, drop, replicate}
 use Rattle.language.specs.Meaning.{Change}
 use Rattle.plan.specs.declared.Item.{Item}
+use Rattle.plan.specs.declared.Item.the-variants.{Bad}
 use Rattle.plan.specs.Items.{decodeAll}
 use Rattle.plan.specs.Sound.{Rules, check, check1, checkStep, checkAll}
 use Rattle.plan.specs.Steps.{rulesOf, itemAt, top, takesOf}
@@ -57,6 +58,10 @@ ready-of p present taken values memory is i stack n slots outputs {next} {marks}
       room = rw e at (f .room (rw e h));
       asks = rw (l .waits, l .slot, l .output) (f .asks);
     }
+
+-- an item that finds what it asks is not bad
+pub not-bad : {values memory stack : List ℕ} {n : ℕ} {slots outputs : List ℕ} {i : Item} → Ready values memory stack n slots outputs i → i ≡ Bad → ⊥
+not-bad r e = rw e at (r .asks)
 
 pub left-turn : {memory stack : List ℕ} {n : ℕ} {slots outputs next marks : List ℕ} {clash : Bool} (values : List ℕ) {j k : Item} {r s : State}
     → j ≡ k → r ≡ s → Left memory stack n slots outputs next marks clash (exec1 values memory j r) → Left memory stack n slots outputs next marks clash (exec1 values memory k s)

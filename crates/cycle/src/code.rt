@@ -14,7 +14,7 @@ ghost use Rattle.cycle.specs.Safety.{Given, Safe, Ran};
 use crate::steps::step;
 use plan::code_before;
 use plan::code_from;
-use plan::fetch;
+use plan::fetch_sound;
 use plan::length_at;
 use plan::place;
 
@@ -35,13 +35,13 @@ fn run_items(
     requires { ⌜ (from + 4 * items ≤ length (now plan)) × (length (now stack) ≡ 256) × (length (now memory) ≤ length (now next)) × (length (now memory) ≤ length (now marks)) × ((qs : List (Change ℕ)) × Buffered (now memory) (now next) (now marks) clash qs) × ((present : ℕ) × (taken : ℕ) × Given (now plan) present (now values) (now memory) × Safe (now plan) present taken (decodeAll (take (4 * items) (drop from (now plan)))) (state [] (now slots) (now outputs) [])) ⌝ }
     ensures { λ r. ⌜ ((qs : List (Change ℕ)) → Buffered (now (memory .entry)) (now (next .entry)) (now (marks .entry)) clash qs → Ran (now (memory .entry)) (now (outputs .exit)) (now (next .exit)) (now (marks .exit)) r (execAll (now (values .entry)) (now (memory .entry)) (decodeAll (take (4 * items) (drop from (now (plan .entry))))) (state [] (now (slots .entry)) (now (outputs .entry)) qs))) ⌝ }
 {
+    let end = from + 4 * items;
     let mut n = 0usize;
     let mut twice = clash;
     let mut at = from;
-    let mut i = 0usize;
-    while i < items {
+    while at < end {
         let left = step(
-            fetch(plan, at),
+            fetch_sound(plan, at),
             values,
             memory,
             stack,
@@ -55,7 +55,6 @@ fn run_items(
         n = left.waits;
         twice = left.clash;
         at += 4;
-        i += 1;
     }
     twice
 }

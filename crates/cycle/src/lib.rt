@@ -14,10 +14,9 @@ ghost use Rattle.cycle.specs.Machine.{cycleOf};
 ghost use Rattle.cycle.specs.Run.{result, runOf};
 ghost use Rattle.cycle.specs.Turn.{outcome};
 use plan::sound;
-use runs::run_in;
 use runs::tables_fit;
+use runs::turns;
 use tests::counts;
-use whole::cycle_in;
 
 // The answer of a cycle, and the number of present ports, 0 where it is refused.
 pub struct Done {
@@ -25,7 +24,17 @@ pub struct Done {
     pub present: u32,
 }
 
-// One cycle of any plan over any tables.
+// A cycle that is refused changes nothing.
+fn refused(answer: u32) -> Done
+    ensures { λ r. ⌜ (r .answer ≡ answer) × (r .present ≡ 0) ⌝ }
+{
+    Done {
+        answer: answer,
+        present: 0,
+    }
+}
+
+// One cycle of any plan over any tables: a run of one.
 pub fn cycle(
     plan: &[u32],
     mask: u32,
@@ -36,34 +45,18 @@ pub fn cycle(
     ensures { λ r. ⌜ outcome (r .answer) (r .present) (now (outputs .exit)) (now (memory .exit)) ≡ cycleOf (now (plan .entry)) mask (now (values .entry)) (now (memory .entry)) (now (outputs .entry)) ⌝ }
 {
     if !sound(plan) {
-        return Done {
-            answer: 20,
-            present: 0,
-        };
+        return refused(20);
     }
     if !counts(plan, values, memory, outputs) {
-        return Done {
-            answer: 21,
-            present: 0,
-        };
+        return refused(21);
     }
-    let mut held = [0u64; 16];
-    let mut stack = [0u64; 256];
-    let mut next = [0u64; 256];
-    let mut marks = [0u32; 256];
-    let mut fired = [0u32; 8];
-    cycle_in(
-        plan,
-        mask,
-        values,
-        memory,
-        outputs,
-        &mut held,
-        &mut stack,
-        &mut next,
-        &mut marks,
-        &mut fired,
-    )
+    let masks = [mask];
+    let mut answers = [0u32; 2];
+    turns(plan, &masks, values, memory, outputs, &mut answers);
+    Done {
+        answer: answers[0],
+        present: answers[1],
+    }
 }
 
 // Cycle after cycle, with a mask for each: 20 or 21 where nothing is run, else 0 and each cycle's own two numbers.
@@ -83,23 +76,6 @@ pub fn run(
     if !tables_fit(plan, masks, values, memory, outputs, answers) {
         return 21;
     }
-    let mut held = [0u64; 16];
-    let mut stack = [0u64; 256];
-    let mut next = [0u64; 256];
-    let mut marks = [0u32; 256];
-    let mut fired = [0u32; 8];
-    run_in(
-        plan,
-        masks,
-        values,
-        memory,
-        outputs,
-        answers,
-        &mut held,
-        &mut stack,
-        &mut next,
-        &mut marks,
-        &mut fired,
-    );
+    turns(plan, masks, values, memory, outputs, answers);
     0
 }

@@ -41,7 +41,7 @@ pub fn tables_fit(
 }
 
 // Cycle after cycle, each with its own part of the tables.
-pub fn run_turns(
+fn run_turns(
     plan: &[u32],
     masks: &[u32],
     n: usize,
@@ -84,7 +84,7 @@ pub fn run_turns(
 }
 
 // The same, with the number of ports told.
-pub fn run_in(
+fn run_in(
     plan: &[u32],
     masks: &[u32],
     values: &[u64],
@@ -114,5 +114,37 @@ pub fn run_in(
         next,
         marks,
         fired,
+    );
+}
+
+// The same of any sound plan. The tables are this function's own, so that what is written to them cannot be the plan or the cells.
+pub fn turns(
+    plan: &[u32],
+    masks: &[u32],
+    values: &[u64],
+    memory: &mut [u64],
+    outputs: &mut [u64],
+    answers: &mut [u32],
+)
+    requires { ⌜ (soundOf (now plan) ≡ true) × (tablesFit (now plan) (now masks) (now values) (now memory) (now outputs) (now answers) ≡ true) ⌝ }
+    ensures { λ _. ⌜ result 0 (now (memory .exit)) (now (outputs .exit)) (now (answers .exit)) ≡ turnsOf (now (plan .entry)) (now (masks .entry)) (now (values .entry)) (now (memory .entry)) (now (outputs .entry)) ⌝ }
+{
+    let mut held = [0u64; 16];
+    let mut stack = [0u64; 256];
+    let mut next = [0u64; 256];
+    let mut marks = [0u32; 256];
+    let mut fired = [0u32; 8];
+    run_in(
+        plan,
+        masks,
+        values,
+        memory,
+        outputs,
+        answers,
+        &mut held,
+        &mut stack,
+        &mut next,
+        &mut marks,
+        &mut fired,
     );
 }

@@ -1,19 +1,18 @@
 // One item of a sound rule: no test is left to be made.
 ghost use mathlib.Core.Path.{_≡_};
-ghost use mathlib.Core.Bool.{Bool};
-ghost use mathlib.Core.List.{List};
-ghost use Prim.Native.Nat.{ℕ, _+_, _≤_, _<_};
+ghost use mathlib.Core.Bool.{Bool, false};
+ghost use mathlib.Core.List.{List, _∷_};
+ghost use Prim.Native.Nat.{ℕ, _+_, _-_, _≤_, _<_};
 ghost use lib.Dec.{eqb};
-ghost use lib.ListN.{length, getD};
+ghost use lib.ListN.{length, getD, set, drop};
 ghost use Rattle.language.specs.Meaning.{Change};
-ghost use Rattle.plan.specs.Steps.{top};
+ghost use Rattle.plan.specs.Steps.{top, takesOf, actsOf};
 ghost use Rattle.cycle.specs.Machine.{State, state, cellOf, writeTo, exec1};
 ghost use Rattle.cycle.specs.Machine.{pick as Machine·pick};
-ghost use Rattle.cycle.specs.Ready.{valueOf, Asks, Ready, Buffered, Left};
+ghost use Rattle.cycle.specs.Ready.{valueOf, Ready, Buffered, Left};
 use plan::Item;
 use plan::constant;
 use plan::place;
-use plan::takes;
 use value::beside;
 use value::binary;
 use value::chosen;
@@ -33,12 +32,32 @@ pub fn wide(x: u32) -> u64
     x as u64
 }
 
-// The k-th waiting value from the latest on, 0 where fewer wait.
-fn waiting(stack: &[u64], n: usize, k: usize) -> u64
-    requires { ⌜ n ≤ length (now stack) ⌝ }
+// The k-th waiting value from the latest on.
+fn last(stack: &[u64], n: usize, k: usize) -> u64
+    requires { ⌜ (k < n) × (n ≤ length (now stack)) ⌝ }
     ensures { λ r. ⌜ r ≡ getD (top (now (stack .entry)) n) k 0 ⌝ }
 {
-    if k < n { stack[n - 1 - k] } else { 0 }
+    stack[n - 1 - k]
+}
+
+// A value in place of the latest k: how many wait then.
+fn put(v: u64, stack: &mut [u64], n: usize, k: usize) -> usize
+    requires { ⌜ (length (now stack) ≡ 256) × (k ≤ n) × (n - k < 256) ⌝ }
+    ensures { λ r. ⌜ (r ≤ 256) × (top (now (stack .exit)) r ≡ v ∷ drop k (top (now (stack .entry)) n)) ⌝ }
+{
+    let at = n - k;
+    stack[at] = v;
+    at + 1
+}
+
+// The latest value into a table: how many wait then.
+fn store(table: &mut [u64], k: u32, stack: &[u64], n: usize) -> usize
+    requires { ⌜ (k < length (now table)) × (1 ≤ n) × (n ≤ length (now stack)) ⌝ }
+    ensures { λ r. ⌜ (r ≡ n - 1) × (now (table .exit) ≡ set (now (table .entry)) k (getD (top (now (stack .entry)) n) 0 0)) ⌝ }
+{
+    let q = place(k);
+    table[q] = last(stack, n, 0);
+    n - 1
 }
 
 // A cell of a memory, 0 past it.
@@ -70,27 +89,40 @@ pub fn slot(slots: &[u64], k: u32) -> u64
     slots[q]
 }
 
-// The value that an item leaves over c, x and y, the latest.
-fn value_of(i: Item, values: &[u64], memory: &[u64], slots: &[u64], c: u64, x: u64, y: u64) -> u64
-    requires { ⌜ ((outputs : List ℕ) × Asks (now values) (now memory) (now slots) outputs x y i) ⌝ }
-    ensures { λ r. ⌜ r ≡ valueOf (now (values .entry)) (now (memory .entry)) (now (slots .entry)) c x y i ⌝ }
+// A slot holds a case's label.
+fn holds(slots: &[u64], k: u32, label: u32) -> bool
+    requires { ⌜ k < length (now slots) ⌝ }
+    ensures { λ r. ⌜ r ≡ eqb (getD (now (slots .entry)) k 0) label ⌝ }
+{
+    slot(slots, k) == wide(label)
+}
+
+// An item that leaves a value: how many wait then. Each arm reads and writes for itself, so that one jump leads to all it does.
+fn leave(i: Item, values: &[u64], memory: &[u64], slots: &[u64], s: &mut [u64], n: usize) -> usize
+    requires { ⌜ (n ≤ 256) × (length (now s) ≡ 256) × (actsOf i ≡ false) × ((outputs : List ℕ) × Ready (now values) (now memory) (now s) n (now slots) outputs i) ⌝ }
+    ensures { λ r. ⌜ (r ≤ 256) × (top (now (s .exit)) r ≡ valueOf (now (values .entry)) (now (memory .entry)) (now (slots .entry)) (getD (top (now (s .entry)) n) 2 0) (getD (top (now (s .entry)) n) 1 0) (getD (top (now (s .entry)) n) 0 0) i ∷ drop (takesOf i) (top (now (s .entry)) n)) ⌝ }
 {
     match i {
-        Item::Const(_, lo, hi) => constant(lo, hi),
-        Item::Port(k) => slot(values, k),
-        Item::Let(k) => slot(slots, k),
-        Item::Cell(_, f, size) => cell(memory, f, size, y),
-        Item::Range(a, b) => range(y, a, b),
-        Item::Copies(n, w) => copies(n, w, y),
-        Item::Beside(w) => beside(w, x, y),
-        Item::Before(u, w) => unary(u, w, y),
-        Item::Between(o, m, n) => binary(o, m, n, x, y),
-        Item::Choice => chosen(c, x, y),
-        Item::Arm(label, k) => pick(slot(slots, k) == wide(label), x, y),
-        Item::Keep(_, _) => 0,
-        Item::Assign(_) => 0,
-        Item::Write(_, _, _) => 0,
-        Item::Bad => 0,
+        Item::Const(_, lo, hi) => put(constant(lo, hi), s, n, 0),
+        Item::Port(k) => put(slot(values, k), s, n, 0),
+        Item::Let(k) => put(slot(slots, k), s, n, 0),
+        Item::Cell(_, f, size) => put(cell(memory, f, size, last(s, n, 0)), s, n, 1),
+        Item::Range(a, b) => put(range(last(s, n, 0), a, b), s, n, 1),
+        Item::Copies(k, w) => put(copies(k, w, last(s, n, 0)), s, n, 1),
+        Item::Beside(w) => put(beside(w, last(s, n, 1), last(s, n, 0)), s, n, 2),
+        Item::Before(u, w) => put(unary(u, w, last(s, n, 0)), s, n, 1),
+        Item::Between(o, a, b) => put(binary(o, a, b, last(s, n, 1), last(s, n, 0)), s, n, 2),
+        Item::Choice => put(chosen(last(s, n, 2), last(s, n, 1), last(s, n, 0)), s, n, 3),
+        Item::Arm(c, k) => put(
+            pick(holds(slots, k, c), last(s, n, 1), last(s, n, 0)),
+            s,
+            n,
+            2,
+        ),
+        Item::Keep(_, _) => n,
+        Item::Assign(_) => n,
+        Item::Write(_, _, _) => n,
+        Item::Bad => n,
     }
 }
 
@@ -135,37 +167,26 @@ pub fn step(
     requires { ⌜ (n ≤ 256) × (length (now stack) ≡ 256) × (length (now memory) ≤ length (now next)) × (length (now memory) ≤ length (now marks)) × Ready (now values) (now memory) (now stack) n (now slots) (now outputs) i ⌝ }
     ensures { λ r. ⌜ (r .waits ≤ 256) × ((qs : List (Change ℕ)) → Buffered (now (memory .entry)) (now (next .entry)) (now (marks .entry)) clash qs → Left (now (memory .entry)) (now (stack .exit)) (r .waits) (now (slots .exit)) (now (outputs .exit)) (now (next .exit)) (now (marks .exit)) (r .clash) (exec1 (now (values .entry)) (now (memory .entry)) i (state (top (now (stack .entry)) n) (now (slots .entry)) (now (outputs .entry)) qs))) ⌝ }
 {
-    let x = waiting(stack, n, 1);
-    let y = waiting(stack, n, 0);
     match i {
-        Item::Keep(k, _) => {
-            let q = place(k);
-            slots[q] = y;
-            Next {
-                waits: n - 1,
-                clash: clash,
-            }
-        }
-        Item::Assign(p) => {
-            let q = place(p);
-            outputs[q] = y;
-            Next {
-                waits: n - 1,
-                clash: clash,
-            }
-        }
-        Item::Write(_, f, size) => Next {
-            waits: n - 2,
-            clash: write(next, marks, clash, f, size, x, y),
+        Item::Keep(k, _) => Next {
+            waits: store(slots, k, stack, n),
+            clash: clash,
         },
-        _ => {
-            let c = waiting(stack, n, 2);
-            let at = n - takes(i);
-            stack[at] = value_of(i, values, memory, slots, c, x, y);
+        Item::Assign(p) => Next {
+            waits: store(outputs, p, stack, n),
+            clash: clash,
+        },
+        Item::Write(_, f, size) => {
+            let x = last(stack, n, 1);
+            let y = last(stack, n, 0);
             Next {
-                waits: at + 1,
-                clash: clash,
+                waits: n - 2,
+                clash: write(next, marks, clash, f, size, x, y),
             }
         }
+        _ => Next {
+            waits: leave(i, values, memory, slots, stack, n),
+            clash: clash,
+        },
     }
 }

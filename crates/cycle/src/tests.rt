@@ -50,7 +50,7 @@ fn inputs_fit(plan: &[u32], mask: u32, values: &[u64], n: u32) -> bool
     ok
 }
 
-// The cells of a memory fit its width.
+// The cells of a memory fit its width: where all their bits together do.
 fn memory_fits(plan: &[u32], memory: &[u64], m: u32) -> bool
     requires { ⌜ cellsBefore (now plan) m + memorySizeAt (now plan) m ≤ length (now memory) ⌝ }
     ensures { λ r. ⌜ r ≡ memoryFits (now (plan .entry)) (now (memory .entry)) m ⌝ }
@@ -58,13 +58,13 @@ fn memory_fits(plan: &[u32], memory: &[u64], m: u32) -> bool
     let first = cells_before(plan, m);
     let size = place(memory_size(plan, m));
     let w = memory_width(plan, m);
-    let mut ok = true;
+    let mut bits = 0u64;
     let mut i = 0usize;
     while i < size {
-        ok = ok & within(memory[first + i], w);
+        bits = bits | memory[first + i];
         i += 1;
     }
-    ok
+    within(bits, w)
 }
 
 fn memories_fit(plan: &[u32], memory: &[u64], n: u32) -> bool

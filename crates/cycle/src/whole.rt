@@ -6,13 +6,14 @@ ghost use Prim.Native.Nat.{ℕ, _+_, _≤_, _<_};
 ghost use lib.ListN.{length, getD, take, drop, replicate};
 ghost use Rattle.plan.specs.Layout.{portCount, memoryCount, cellsBefore, groupCount};
 ghost use Rattle.plan.specs.Sound.{soundOf};
-ghost use Rattle.cycle.specs.Machine.{state, execRules, counts, soundCycle};
+ghost use Rattle.cycle.specs.Machine.{state, execRules, soundCycle};
 ghost use Rattle.cycle.specs.Safety.{Ran};
 ghost use Rattle.cycle.specs.Fire.{Fires};
-ghost use Rattle.cycle.specs.Turn.{Turned, Tables, outcome};
+ghost use Rattle.cycle.specs.Turn.{Turned, Tables};
 use crate::Done;
 use crate::code::run_rules;
 use crate::groups::fire;
+use crate::refused;
 use crate::tables::clear;
 use crate::tables::copy;
 use crate::tables::prepare;
@@ -59,23 +60,14 @@ pub fn turn(
     ensures { λ r. ⌜ Turned (soundCycle (now (plan .entry)) mask (now (values .entry)) (now (memory .entry)) (take (portCount (now (plan .entry))) (drop at (now (outputs .entry))))) (r .answer) (r .present) (now (memory .exit)) (now (outputs .exit)) (now (outputs .entry)) at (portCount (now (plan .entry))) ⌝ }
 {
     if !fitting(plan, mask, values, memory) {
-        return Done {
-            answer: 22,
-            present: 0,
-        };
+        return refused(22);
     }
     let answer = fire(plan, mask, fired);
     if answer != 0 {
-        return Done {
-            answer: answer,
-            present: 0,
-        };
+        return refused(answer);
     }
     if act(plan, values, memory, held, stack, next, marks, fired) {
-        return Done {
-            answer: 25,
-            present: 0,
-        };
+        return refused(25);
     }
     let cells = memory.len();
     copy(memory, 0, next, cells);
@@ -84,36 +76,4 @@ pub fn turn(
         answer: 0,
         present: present(mask),
     }
-}
-
-// A cycle whose outputs have a table of their own.
-pub fn cycle_in(
-    plan: &[u32],
-    mask: u32,
-    values: &[u64],
-    memory: &mut [u64],
-    outputs: &mut [u64],
-    held: &mut [u64],
-    stack: &mut [u64],
-    next: &mut [u64],
-    marks: &mut [u32],
-    fired: &mut [u32],
-) -> Done
-    requires { ⌜ (soundOf (now plan) ≡ true) × (counts (now plan) (now values) (now memory) (now outputs) ≡ true) × (length (now held) ≡ 16) × (length (now stack) ≡ 256) × (length (now next) ≡ 256) × (length (now marks) ≡ 256) × (length (now fired) ≡ 8) ⌝ }
-    ensures { λ r. ⌜ outcome (r .answer) (r .present) (now (outputs .exit)) (now (memory .exit)) ≡ soundCycle (now (plan .entry)) mask (now (values .entry)) (now (memory .entry)) (now (outputs .entry)) ⌝ }
-{
-    let n = values.len();
-    turn(
-        plan,
-        mask,
-        values,
-        memory,
-        outputs,
-        0,
-        &mut held[0..n],
-        stack,
-        next,
-        marks,
-        fired,
-    )
 }

@@ -44,13 +44,6 @@ top-drop s (suc n) (suc k) h = let e : suc n - suc k ≡ n - k = omega arith in 
 
 -- ---- widths
 
-pub wide-top : (s : List ℕ) (n k : ℕ) → n ≤ 256 → Wide s n → getD (top s n) k 0 ≤ 64
-wide-top s n k l f = go (decLt k n)
-  where
-    go : Dec (k < n) → getD (top s n) k 0 ≤ 64
-    go (yes h) = rw (← top-at s n k h) (f (n - 1 - k) (omega arith) l)
-    go (no h) = rw (← top-past s n k (omega arith)) (omega arith)
-
 pub wide-less : (s : List ℕ) (n m : ℕ) → m ≤ n → n ≤ 256 → Wide s n → Wide s m
 wide-less s n m h l f = λ k j i. f k (omega arith) l
 

@@ -5,6 +5,7 @@ ghost use lib.ListN.{length};
 ghost use Rattle.plan.specs.Items.{decode, unaryItem, binaryItem};
 ghost use Rattle.plan.specs.Items.{unused as Items·unused};
 ghost use Rattle.plan.specs.Steps.{itemAt, takesOf, actsOf};
+ghost use Rattle.plan.specs.declared.Item.the-variants.{Bad};
 use crate::Item;
 use language::Binary;
 use language::Unary;
@@ -91,6 +92,38 @@ pub fn fetch(plan: &[u32], at: usize) -> Item
     ensures { λ r. ⌜ r ≡ itemAt (now (plan .entry)) at ⌝ }
 {
     item(plan[at], plan[at + 1], plan[at + 2], plan[at + 3])
+}
+
+// The item that four numbers of sound code are: the check has looked at the operands that are not used.
+fn sound_item(op: u32, a: u32, b: u32, c: u32) -> Item
+    requires { ⌜ (decode op a b c ≡ Bad → ⊥) ⌝ }
+    ensures { λ r. ⌜ r ≡ decode op a b c ⌝ }
+{
+    match op {
+        0 => Item::Const(a, b, c),
+        1 => Item::Port(a),
+        2 => Item::Let(a),
+        3 => Item::Cell(a, b, c),
+        4 => Item::Range(a, b),
+        5 => Item::Copies(a, b),
+        6 => Item::Beside(a),
+        7 => unary_item(a, b),
+        8 => binary_item(a, b, c),
+        9 => Item::Choice,
+        10 => Item::Arm(a, b),
+        11 => Item::Keep(a, b),
+        12 => Item::Assign(a),
+        13 => Item::Write(a, b, c),
+        _ => Item::Bad,
+    }
+}
+
+// The item at a place of sound code.
+pub fn fetch_sound(plan: &[u32], at: usize) -> Item
+    requires { ⌜ (at + 4 ≤ length (now plan)) × (itemAt (now plan) at ≡ Bad → ⊥) ⌝ }
+    ensures { λ r. ⌜ r ≡ itemAt (now (plan .entry)) at ⌝ }
+{
+    sound_item(plan[at], plan[at + 1], plan[at + 2], plan[at + 3])
 }
 
 // How many waiting values an item takes.

@@ -8,8 +8,7 @@ mod sections;
 mod steps;
 mod widths;
 
-pub use items::fetch;
-pub use items::takes;
+pub use items::fetch_sound;
 use language::Binary;
 use language::Unary;
 pub use layout::absent_at;

@@ -19,20 +19,13 @@ use crate::layout::place;
 use crate::layout::present_at;
 use crate::widths::memory_ok;
 use crate::widths::output_ok;
+use crate::widths::waiting;
 use crate::widths::width_of;
 
 // How many widths wait, 999 where the check is broken; and the mask of the outputs assigned.
 pub struct Next {
     pub waits: usize,
     pub assigned: u32,
-}
-
-// The k-th waiting width from the latest on, 0 where fewer wait.
-fn waiting(ws: &[u32], n: usize, k: usize) -> u32
-    requires { ⌜ n ≤ length (now ws) ⌝ }
-    ensures { λ r. ⌜ r ≡ getD (top (now (ws .entry)) n) k 0 ⌝ }
-{
-    if k < n { ws[n - 1 - k] } else { 0 }
 }
 
 // A width in place of the latest k.
@@ -131,20 +124,18 @@ fn check_step(
     requires { ⌜ (n ≤ 256) × (length (now ws) ≡ 256) × (length (now ls) ≡ 48) × (portCount (now plan) ≤ 16) × (assigned < 65536) × Wide (now ws) n ⌝ }
     ensures { λ r. ⌜ (r .assigned < 65536) × Wide (now (ws .exit)) (r .waits) × (checkAt (now (ws .exit)) (r .waits) (now (ls .exit)) (r .assigned) ≡ check1 (rulesOf (now (plan .entry)) present taken) i (top (now (ws .entry)) n) (now (ls .entry)) assigned) ⌝ }
 {
-    let x = waiting(ws, n, 1);
-    let y = waiting(ws, n, 0);
     match i {
         Item::Keep(k, w) => Next {
-            waits: keep(ls, n, k, w, y),
+            waits: keep(ls, n, k, w, waiting(ws, n, 0)),
             assigned: assigned,
         },
-        Item::Assign(p) => assign(plan, present, taken, n, p, y, assigned),
+        Item::Assign(p) => assign(plan, present, taken, n, p, waiting(ws, n, 0), assigned),
         Item::Write(m, f, size) => Next {
-            waits: write(plan, n, m, f, size, y),
+            waits: write(plan, n, m, f, size, waiting(ws, n, 0)),
             assigned: assigned,
         },
         _ => {
-            let w = width_of(i, plan, present, ls, x, y);
+            let w = width_of(i, plan, present, ls, ws, n);
             Next {
                 waits: push_over(ws, n, takes(i), w),
                 assigned: assigned,

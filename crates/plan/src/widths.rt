@@ -4,9 +4,10 @@ ghost use mathlib.Core.Bool.{_&&_};
 ghost use mathlib.Core.List.{[]};
 ghost use Prim.Native.Nat.{_+_, _*_, _^_, _≤_, _<_, max};
 ghost use lib.Dec.{eqb, leb, ltb};
+ghost use lib.ListN.{length, getD};
 ghost use Rattle.language.specs.Values.{binaryWidth, rangeWidth};
 ghost use Rattle.plan.specs.Sound.{inputOk, outputOk, memoryOk, slotWidth};
-ghost use Rattle.plan.specs.Steps.{rulesOf, widthIf, widthOf};
+ghost use Rattle.plan.specs.Steps.{rulesOf, widthIf, widthOf, top, Wide};
 use crate::Item;
 use crate::layout::bit;
 use crate::layout::cells_before;
@@ -124,23 +125,46 @@ fn between_width(o: Binary, m: u32, n: u32, x: u32, y: u32) -> u32
     if y == n { binary_width(o, m, n) } else { 99 }
 }
 
-// The width that an item leaves over the widths x and y, the latest.
-pub fn width_of(i: Item, plan: &[u32], present: u32, ls: &[u32], x: u32, y: u32) -> u32
+fn beside_width(w: u32, x: u32, y: u32) -> u32
     requires { ⌜ (x ≤ 64) × (y ≤ 64) ⌝ }
-    ensures { λ r. ⌜ r ≡ widthOf (rulesOf (now (plan .entry)) present 0) (now (ls .entry)) x y i ⌝ }
+    ensures { λ r. ⌜ r ≡ widthIf (eqb y w) (x + y) ⌝ }
+{
+    width_if(y == w, x + y)
+}
+
+// The k-th waiting width from the latest on, 0 where fewer wait.
+pub fn waiting(ws: &[u32], n: usize, k: usize) -> u32
+    requires { ⌜ (n ≤ 256) × (length (now ws) ≡ 256) × Wide (now ws) n ⌝ }
+    ensures { λ r. ⌜ (r ≡ getD (top (now (ws .entry)) n) k 0) × (r ≤ 64) ⌝ }
+{
+    if k < n { ws[n - 1 - k] } else { 0 }
+}
+
+// The wider of the latest two.
+fn widest(ws: &[u32], n: usize) -> u32
+    requires { ⌜ (n ≤ 256) × (length (now ws) ≡ 256) × Wide (now ws) n ⌝ }
+    ensures { λ r. ⌜ r ≡ max (getD (top (now (ws .entry)) n) 1 0) (getD (top (now (ws .entry)) n) 0 0) ⌝ }
+{
+    wider(waiting(ws, n, 1), waiting(ws, n, 0))
+}
+
+// The width that an item leaves over the widths that wait. Each arm reads for itself, so that one jump leads to all it does.
+pub fn width_of(i: Item, plan: &[u32], present: u32, ls: &[u32], ws: &[u32], n: usize) -> u32
+    requires { ⌜ (n ≤ 256) × (length (now ws) ≡ 256) × Wide (now ws) n ⌝ }
+    ensures { λ r. ⌜ r ≡ widthOf (rulesOf (now (plan .entry)) present 0) (now (ls .entry)) (getD (top (now (ws .entry)) n) 1 0) (getD (top (now (ws .entry)) n) 0 0) i ⌝ }
 {
     match i {
         Item::Const(w, lo, hi) => const_width(w, lo, hi),
         Item::Port(k) => width_if(input_ok(plan, present, k), port_at(plan, k)),
         Item::Let(k) => slot_width(ls, k),
-        Item::Cell(m, f, n) => width_if(memory_ok(plan, m, f, n), memory_width(plan, m)),
-        Item::Range(a, b) => range_width(a, b, y),
-        Item::Copies(n, w) => copies_width(n, w, y),
-        Item::Beside(w) => width_if(y == w, x + y),
-        Item::Before(u, w) => width_if(y == w, unary_width(u, w)),
-        Item::Between(o, m, n) => between_width(o, m, n, x, y),
-        Item::Choice => wider(x, y),
-        Item::Arm(_, k) => width_if(slot_width(ls, k) <= 64, wider(x, y)),
+        Item::Cell(m, f, k) => width_if(memory_ok(plan, m, f, k), memory_width(plan, m)),
+        Item::Range(a, b) => range_width(a, b, waiting(ws, n, 0)),
+        Item::Copies(k, w) => copies_width(k, w, waiting(ws, n, 0)),
+        Item::Beside(w) => beside_width(w, waiting(ws, n, 1), waiting(ws, n, 0)),
+        Item::Before(u, w) => width_if(waiting(ws, n, 0) == w, unary_width(u, w)),
+        Item::Between(o, a, b) => between_width(o, a, b, waiting(ws, n, 1), waiting(ws, n, 0)),
+        Item::Choice => widest(ws, n),
+        Item::Arm(_, k) => width_if(slot_width(ls, k) <= 64, widest(ws, n)),
         Item::Keep(_, _) => 99,
         Item::Assign(_) => 99,
         Item::Write(_, _, _) => 99,

@@ -47,44 +47,62 @@ width-if-requires-2 c κs = search needs
 enum-known-i-5 : tie.Need-enum-known-i-5
 enum-known-i-5 c = search needs
 
+waiting-requires : tie.Need-waiting-requires
+waiting-requires c κs = search needs
+
 range-width-requires : tie.Need-range-width-requires
-range-width-requires c κs = search needs
+range-width-requires c κs = c .waiting .ensures .1
 
 enum-known-i-6 : tie.Need-enum-known-i-6
 enum-known-i-6 c = search needs
 
+waiting-requires-2 : tie.Need-waiting-requires-2
+waiting-requires-2 c κs = search needs
+
 copies-width-requires : tie.Need-copies-width-requires
-copies-width-requires c κs = search needs
+copies-width-requires c κs = c .waiting2 .ensures .1
 
 enum-known-i-7 : tie.Need-enum-known-i-7
 enum-known-i-7 c = search needs
 
-add-width-if : tie.Need-add-width-if
-add-width-if c = search needs
+waiting-requires-3 : tie.Need-waiting-requires-3
+waiting-requires-3 c κs = search needs
 
-width-if-requires-3 : tie.Need-width-if-requires-3
-width-if-requires-3 c κs = search needs
+waiting-requires-4 : tie.Need-waiting-requires-4
+waiting-requires-4 c κs = search needs
+
+beside-width-requires : tie.Need-beside-width-requires
+beside-width-requires c κs = (c .before .waiting3 .ensures .1, c .waiting4 .ensures .1)
 
 enum-known-i-8 : tie.Need-enum-known-i-8
 enum-known-i-8 c = search needs
 
+waiting-requires-5 : tie.Need-waiting-requires-5
+waiting-requires-5 c κs = search needs
+
 unary-width-requires : tie.Need-unary-width-requires
 unary-width-requires c κs = search needs
 
-width-if-requires-4 : tie.Need-width-if-requires-4
-width-if-requires-4 c κs = search needs
+width-if-requires-3 : tie.Need-width-if-requires-3
+width-if-requires-3 c κs = search needs
 
 enum-known-i-9 : tie.Need-enum-known-i-9
 enum-known-i-9 c = search needs
 
+waiting-requires-6 : tie.Need-waiting-requires-6
+waiting-requires-6 c κs = search needs
+
+waiting-requires-7 : tie.Need-waiting-requires-7
+waiting-requires-7 c κs = search needs
+
 between-width-requires : tie.Need-between-width-requires
-between-width-requires c κs = search needs
+between-width-requires c κs = (c .before .waiting6 .ensures .1, c .waiting7 .ensures .1)
 
 enum-told : tie.Need-enum-told
 enum-told c = search needs
 
-wider-requires : tie.Need-wider-requires
-wider-requires c κs = search needs
+widest-requires : tie.Need-widest-requires
+widest-requires c κs = search needs
 
 enum-known-i-10 : tie.Need-enum-known-i-10
 enum-known-i-10 c = search needs
@@ -92,11 +110,11 @@ enum-known-i-10 c = search needs
 slot-width-requires-2 : tie.Need-slot-width-requires-2
 slot-width-requires-2 c κs = search needs
 
-wider-requires-2 : tie.Need-wider-requires-2
-wider-requires-2 c κs = search needs
+widest-requires-2 : tie.Need-widest-requires-2
+widest-requires-2 c κs = search needs
 
-width-if-requires-5 : tie.Need-width-if-requires-5
-width-if-requires-5 c κs = search needs
+width-if-requires-4 : tie.Need-width-if-requires-4
+width-if-requires-4 c κs = search needs
 
 enum-told-2 : tie.Need-enum-told-2
 enum-told-2 c = search needs
@@ -126,26 +144,26 @@ unfolding inputOk memoryOk slotWidth
 returns-4 c = rw (c .before .before .before .before .i4 .given .1) (c .width-if2 .ensures ∙ rw (c .before .before .memory-ok .ensures, c .before .memory-width .ensures))
 
 returns-5 : tie.Need-returns-5
-returns-5 c = rw (c .before .before .i5 .given .1) (c .range-width .ensures)
+returns-5 c = rw (c .before .before .before .i5 .given .1) (c .range-width .ensures ∙ rw (c .before .waiting .ensures .0))
 
 returns-6 : tie.Need-returns-6
-returns-6 c = rw (c .before .before .i6 .given .1) (c .copies-width .ensures)
+returns-6 c = rw (c .before .before .before .i6 .given .1) (c .copies-width .ensures ∙ rw (c .before .waiting2 .ensures .0))
 
 returns-7 : tie.Need-returns-7
-returns-7 c = rw (c .before .before .i7 .given .1) (c .width-if3 .ensures)
+returns-7 c = rw (c .before .before .before .before .i7 .given .1) (c .beside-width .ensures ∙ rw (c .before .before .waiting3 .ensures .0, c .before .waiting4 .ensures .0))
 
 returns-8 : tie.Need-returns-8
-returns-8 c = rw (c .before .before .before .i8 .given .1) (c .width-if4 .ensures ∙ rw (c .before .unary-width .ensures))
+returns-8 c = rw (c .before .before .before .before .i8 .given .1) (c .width-if3 .ensures ∙ rw (c .before .unary-width .ensures, c .before .before .waiting5 .ensures .0))
 
 returns-9 : tie.Need-returns-9
-returns-9 c = rw (c .before .before .i9 .given .1) (c .between-width .ensures)
+returns-9 c = rw (c .before .before .before .before .i9 .given .1) (c .between-width .ensures ∙ rw (c .before .before .waiting6 .ensures .0, c .before .waiting7 .ensures .0))
 
 returns-10 : tie.Need-returns-10
-returns-10 c = rw (c .before .enum-told .given .1) (c .wider .ensures)
+returns-10 c = rw (c .before .enum-told .given .1) (c .widest .ensures)
 
 returns-11 : tie.Need-returns-11
 unfolding inputOk memoryOk slotWidth
-returns-11 c = rw (c .before .before .before .before .i10 .given .1) (c .width-if5 .ensures ∙ rw (c .before .before .slot-width2 .ensures, c .before .wider2 .ensures))
+returns-11 c = rw (c .before .before .before .before .i10 .given .1) (c .width-if4 .ensures ∙ rw (c .before .before .slot-width2 .ensures, c .before .widest2 .ensures))
 
 returns-12 : tie.Need-returns-12
 returns-12 c = rw (c .enum-told2 .given .1)
@@ -162,8 +180,9 @@ returns-15 c = rw (c .enum-told5 .given .1)
 pub width-of-spec : {M : Type 1} → statement M
 width-of-spec =
     tie.close (tie.spec enum-known-i const-width-requires enum-known-i-2 input-ok-requires port-at-requires width-if-requires enum-known-i-3
-    slot-width-requires enum-known-i-4 memory-ok-requires memory-width-requires width-if-requires-2 enum-known-i-5 range-width-requires enum-known-i-6
-    copies-width-requires enum-known-i-7 add-width-if width-if-requires-3 enum-known-i-8 unary-width-requires width-if-requires-4 enum-known-i-9
-    between-width-requires enum-told wider-requires enum-known-i-10 slot-width-requires-2 wider-requires-2 width-if-requires-5 enum-told-2 enum-told-3
-    enum-told-4 enum-told-5 returns returns-2 returns-3 returns-4 returns-5 returns-6 returns-7 returns-8 returns-9 returns-10 returns-11 returns-12
-    returns-13 returns-14 returns-15)
+    slot-width-requires enum-known-i-4 memory-ok-requires memory-width-requires width-if-requires-2 enum-known-i-5 waiting-requires
+    range-width-requires enum-known-i-6 waiting-requires-2 copies-width-requires enum-known-i-7 waiting-requires-3 waiting-requires-4
+    beside-width-requires enum-known-i-8 waiting-requires-5 unary-width-requires width-if-requires-3 enum-known-i-9 waiting-requires-6
+    waiting-requires-7 between-width-requires enum-told widest-requires enum-known-i-10 slot-width-requires-2 widest-requires-2 width-if-requires-4
+    enum-told-2 enum-told-3 enum-told-4 enum-told-5 returns returns-2 returns-3 returns-4 returns-5 returns-6 returns-7 returns-8 returns-9 returns-10
+    returns-11 returns-12 returns-13 returns-14 returns-15)
