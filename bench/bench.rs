@@ -425,7 +425,7 @@ fn small() -> Vec<u32> {
 }
 
 // `groups` groups of four rules, of which the fourth fires where every port is present, with about `items` items: statements drawn
-// at random, all of them or, as in most texts, some that come again and again
+// at random, all of them, or some that come again and again
 fn wide(rng: &mut Rng, inputs: usize, groups: usize, memories: usize, items: usize, again: bool) -> Vec<u32> {
     let mut plan = Plan { ports: vec![], memories: vec![], groups: vec![] };
     for i in 0..inputs { plan.ports.push([8, 1, 32, 5][i % 4]); }
@@ -553,9 +553,9 @@ fn main() {
     println!("the machines agree on 300 plans, {good} of 6000 cycles with answer 0, and on 6000 changed ones, {refused} of them not sound");
     let rng = &mut Rng(2);
     let middle = wide(rng, 4, 2, 2, 256, true);
-    let large = wide(rng, 8, 8, 8, 1000, true);
-    let mixed = wide(rng, 8, 8, 8, 1000, false);
-    for (name, p) in [("small", &small()), ("middle", &middle), ("large", &large), ("mixed", &mixed)] {
+    let repeating = wide(rng, 8, 8, 8, 1000, true);
+    let largest = wide(rng, 8, 8, 8, 1000, false);
+    for (name, p) in [("small", &small()), ("middle", &middle), ("repeating", &repeating), ("largest", &largest)] {
         if only.is_empty() || only == name { measure(name, p, rng, work, rounds); }
     }
 }

@@ -1,0 +1,208 @@
+-- What the walk does on each part of an actor: its faulty places, in the order of the tape, and the names that it adds. Assumes nothing.
+use mathlib.Core.Path.{_≡_, refl, sym, ap, ap₂, _∙_, subst}
+use mathlib.Core.Bool.{Bool, true, false, not, _||_}
+use mathlib.Core.List.{List, [], _∷_, _++_, append-assoc, append-nil}
+use Prim.Native.Nat.{ℕ}
+use Rattle.language.specs.Text.{Name, among}
+use Rattle.language.specs.Parts.{each, Item, reads, items, breadthItems, amountItems, declaredItems}
+use Rattle.language.specs.Names.{when}
+use Rattle.language.specs.Tree.{Ty, number, environment, port, plus, minus, log, ceil, floor, most, entry, within, Breadth, bits, Amount, given, value}
+use Rattle.language.specs.Tree.{Expr, plain, sized, copies, read, cell, bit, range, inside, joined, beside, unary, binary, choice, either, select, arm, default}
+use Rattle.language.specs.Tree.{Declared, Port, Memory, Entry, Val, Assignment, assign, write, Statement, alone, scoped, Rule, Group, Actor, portNames}
+use Rattle.placed.specs.Placed.{nameFrom, Every, PlacedType, PlacedBreadth, PlacedAmount, PlacedExpr}
+use Rattle.syntax.specs.Tape.{item, flatT, flatB, flatA, flat, flats}
+use Rattle.known.specs.Walk.{hit, add, Seen, test, put}
+use Rattle.known.proofs.Tapes.{Goes, goes-none, goes-both, goes-item}
+use Rattle.known.proofs.Seens.{next, reset, Ran, ran, meet}
+
+-- ---- the faulty places, in the order of the tape
+
+-- names put before others, the latest first
+unfoldable pub pushed : List Name → List (List ℕ) → List (List ℕ)
+pushed [] l = l
+pushed (n ∷ ns) l = pushed ns (n .spelled ∷ l)
+
+unfoldable pub valNames : List Val → List Name
+valNames [] = []
+valNames (v ∷ vs) = v .called ∷ valNames vs
+
+unfoldable pub inputsOnto : List Port → List (List ℕ) → List (List ℕ)
+inputsOnto [] l = l
+inputsOnto (p ∷ ps) l = inputsOnto ps (add (p .input) (p .called .spelled) l)
+
+unfoldable pub outputsOnto : List Port → List (List ℕ) → List (List ℕ)
+outputsOnto [] l = l
+outputsOnto (p ∷ ps) l = outputsOnto ps (add (not (p .input)) (p .called .spelled) l)
+
+module _ (all : Seen) where
+  unfoldable pub tyF : Ty → List ℕ
+  tyF (number n) = []
+  tyF (environment n) = when (among (all .taken) (n .spelled)) (n .at)
+  tyF (port n) = when (not (among (all .declared) (n .spelled))) (n .at)
+  tyF (plus a b) = tyF a ++ tyF b
+  tyF (minus a b) = tyF a ++ tyF b
+  tyF (log p a) = tyF a
+  tyF (ceil p a) = tyF a
+  tyF (floor p a) = tyF a
+  tyF (most p a) = tyF a
+  tyF (entry a b) = tyF a ++ tyF b
+  tyF (within p a) = tyF a
+
+  -- of types and environment names; of what is read
+  unfoldable pub kindF : Item → List ℕ
+  kindF (Item.type t) = tyF t
+  kindF (Item.number n) = []
+  kindF (reads n) = []
+  kindF (Item.value n) = when (among (all .taken) (n .spelled)) (n .at)
+
+  unfoldable pub readF : List (List ℕ) → Item → List ℕ
+  readF lets (Item.type t) = []
+  readF lets (Item.number n) = []
+  readF lets (reads n) = when (not (among (all .inputs) (n .spelled) || among lets (n .spelled))) (n .at)
+  readF lets (Item.value n) = []
+
+  unfoldable pub itemF : List (List ℕ) → Item → List ℕ
+  itemF lets x = kindF x ++ readF lets x
+
+  unfoldable pub exprF : List (List ℕ) → Expr → List ℕ
+  exprF lets e = each (itemF lets) (items e)
+
+  unfoldable pub declF : Declared → List ℕ
+  declF d = each kindF (declaredItems d)
+
+  unfoldable pub valsF : List (List ℕ) → List Val → List ℕ
+  valsF lets [] = []
+  valsF lets (v ∷ vs) =
+      ((declF (v .type) ++ exprF lets (v .value)) ++ when (among lets (v .called .spelled) || among (all .taken) (v .called .spelled)) (v .called .at)) ++ valsF (v .called .spelled ∷ lets) vs
+
+  unfoldable pub assignF : List (List ℕ) → Assignment → List ℕ
+  assignF lets (assign n e) = exprF lets e ++ when (not (among (all .outputs) (n .spelled))) (n .at)
+  assignF lets (write n x e) = exprF lets x ++ exprF lets e
+
+  unfoldable pub statementF : Statement → List ℕ
+  statementF (alone x) = assignF [] x
+  statementF (scoped vs l) = valsF [] vs ++ each (assignF (pushed (valNames vs) [])) l
+
+  unfoldable pub entriesF : List (List ℕ) → List Entry → List ℕ
+  entriesF ps [] = []
+  entriesF ps (e ∷ es) = when (not (among (all .declared) (e .called .spelled)) || among ps (e .called .spelled)) (e .called .at) ++ entriesF (e .called .spelled ∷ ps) es
+
+  unfoldable pub ruleF : Rule → List ℕ
+  ruleF r = entriesF [] (r .list) ++ each statementF (r .body)
+
+  unfoldable pub groupF : Group → List ℕ
+  groupF g = each ruleF (g .rules)
+
+  unfoldable pub signF : List (List ℕ) → List Name → List ℕ
+  signF l [] = []
+  signF l (n ∷ ns) = when (among l (n .spelled) || not (among (all .declared) (n .spelled))) (n .at) ++ signF (n .spelled ∷ l) ns
+
+  unfoldable pub portsF : List (List ℕ) → List Port → List ℕ
+  portsF l [] = []
+  portsF l (p ∷ ps) = (declF (p .type) ++ when (not (among (all .signed) (p .called .spelled)) || among l (p .called .spelled)) (p .called .at)) ++ portsF (p .called .spelled ∷ l) ps
+
+  unfoldable pub memoriesF : List (List ℕ) → List Memory → List ℕ
+  memoriesF l [] = []
+  memoriesF l (m ∷ ms) = (declF (m .type) ++ when (among l (m .called .spelled)) (m .called .at)) ++ memoriesF (m .called .spelled ∷ l) ms
+
+  unfoldable pub actorF : Actor → List ℕ
+  actorF a = ((signF [] (a .signature) ++ portsF [] (a .ports)) ++ memoriesF (pushed (portNames (a .ports)) []) (a .memories)) ++ each groupF (a .groups)
+
+-- ---- what the walk does on a list of numbers, whatever stands before and after it
+
+pub record Does (text : List ℕ) (all : Seen) (s : Seen) (a f : List ℕ) (s' : Seen) : Type 0 where
+  pub goes : (fs : List ℕ) → Goes (meet text all) (ran fs s) a (ran (fs ++ f) s')
+
+pub each-append : {A B : Type 0} (f : A → List B) (a b : List A) → each f (a ++ b) ≡ each f a ++ each f b
+unfolding each
+each-append f [] b = refl
+each-append f (x ∷ a) b = ap (λ (r : List _). f x ++ r) (each-append f a b) ∙ sym (append-assoc (f x) (each f a) (each f b))
+
+put-when : (b : Bool) (p : ℕ) (fs : List ℕ) → put b p fs ≡ fs ++ when b p
+unfolding put when
+put-when true p fs = refl
+put-when false p fs = sym (append-nil fs)
+
+more : {step : Ran → ℕ → ℕ → ℕ → Ran} {r : Ran} {s : Seen} {a f g : List ℕ} → f ≡ g → Goes step r a (ran f s) → Goes step r a (ran g s)
+more {step} {r} {s} {a} e d = subst (λ (f : List ℕ). Goes step r a (ran f s)) e d
+
+module _ {text : List ℕ} {all : Seen} where
+  pub told : {s s' : Seen} {a f g : List ℕ} → f ≡ g → Does text all s a f s' → Does text all s a g s'
+  told {s} {s'} {a} e d = subst (λ (f : List ℕ). Does text all s a f s') e d
+
+  pub none : {s : Seen} → Does text all s [] [] s
+  none = record { goes = λ fs. more (sym (append-nil fs)) goes-none }
+
+  pub both : {s s' s'' : Seen} {a b f g : List ℕ} → Does text all s a f s' → Does text all s' b g s'' → Does text all s (a ++ b) (f ++ g) s''
+  both {f = f} {g = g} d e = record { goes = λ fs. more (append-assoc fs f g) (goes-both (d .goes fs) (e .goes (fs ++ f))) }
+
+  pub single : {s s' : Seen} (o p v : ℕ) {b : Bool} → test all s o (nameFrom text p) ≡ b → next text s o p v ≡ s' → Does text all s (item o p v) (when b p) s'
+  unfolding meet
+  single {s} {s'} o p v {b} e n = record { goes = λ fs. more (put-when b p fs) (goes-item o p v (ap₂ (λ (b : Bool) (s : Seen). ran (put b p fs) s) e n)) }
+
+  -- an item that names nothing, after others
+  pub ends : {s s' : Seen} {a f : List ℕ} (o p v : ℕ) → Does text all s a f s' → (test all s' o (nameFrom text p) ≡ false) × (next text s' o p v ≡ s') → Does text all s (a ++ item o p v) f s'
+  unfolding when
+  ends {f = f} o p v d q = told (append-nil f) (both d (single o p v (q .0) (q .1)))
+
+  pub many : {T : Type 0} {s : Seen} {P : T → Type 0} (fl F : T → List ℕ) → ((x : T) → P x → Does text all s (fl x) (F x) s) → (l : List T) → Every P l → Does text all s (flats fl l) (each F l) s
+  unfolding flats each
+  many fl F d [] h = none
+  many fl F d (x ∷ l) h = both (d x (h .0)) (many fl F d l (h .1))
+
+  -- ---- types and expressions
+
+  module _ (s : Seen) where
+    pub type-does : (t : Ty) → PlacedType text t → Does text all s (flatT t) (tyF all t) s
+    unfolding flatT tyF test next hit add reset when
+    type-does (number n) h = single _ _ _ refl refl
+    type-does (environment n) h = single _ _ _ (ap (among (all .taken)) (sym h)) refl
+    type-does (port n) h = single _ _ _ (ap (λ (l : List ℕ). not (among (all .declared) l)) (sym h)) refl
+    type-does (plus a b) h = ends _ _ _ (both (type-does a (h .0)) (type-does b (h .1))) (refl, refl)
+    type-does (minus a b) h = ends _ _ _ (both (type-does a (h .0)) (type-does b (h .1))) (refl, refl)
+    type-does (log p a) h = ends _ _ _ (type-does a h) (refl, refl)
+    type-does (ceil p a) h = ends _ _ _ (type-does a h) (refl, refl)
+    type-does (floor p a) h = ends _ _ _ (type-does a h) (refl, refl)
+    type-does (most p a) h = ends _ _ _ (type-does a h) (refl, refl)
+    type-does (entry a b) h = ends _ _ _ (both (type-does a (h .0)) (type-does b (h .1))) (refl, refl)
+    type-does (within p a) h = ends _ _ _ (type-does a h) (refl, refl)
+
+    type-item : (t : Ty) → PlacedType text t → Does text all s (flatT t) (each (itemF all (s .vals)) (Item.type t ∷ [])) s
+    unfolding each itemF kindF readF
+    type-item t h = told (sym (append-nil (tyF all t ++ []) ∙ append-nil (tyF all t))) (type-does t h)
+
+    join : {a b : List ℕ} (x y : List Item) → Does text all s a (each (itemF all (s .vals)) x) s → Does text all s b (each (itemF all (s .vals)) y) s → Does text all s (a ++ b) (each (itemF all (s .vals)) (x ++ y)) s
+    join x y d e = told (sym (each-append (itemF all (s .vals)) x y)) (both d e)
+
+    join3 : {a b c : List ℕ} (x y z : List Item) → Does text all s a (each (itemF all (s .vals)) x) s → Does text all s b (each (itemF all (s .vals)) y) s → Does text all s c (each (itemF all (s .vals)) z) s → Does text all s ((a ++ b) ++ c) (each (itemF all (s .vals)) (x ++ (y ++ z))) s
+    join3 x y z d e f = told (ap (each (itemF all (s .vals))) (append-assoc x y z)) (join (x ++ y) z (join x y d e) f)
+
+    breadth-does : (w : Breadth) → PlacedBreadth text w → Does text all s (flatB w) (each (itemF all (s .vals)) (breadthItems w)) s
+    unfolding flatB breadthItems each test next hit add reset when
+    breadth-does (bits n) h = single _ _ _ refl refl
+    breadth-does (Breadth.typed p t) h = ends _ _ _ (type-item t h) (refl, refl)
+
+    amount-does : (v : Amount) → PlacedAmount text v → Does text all s (flatA v) (each (itemF all (s .vals)) (amountItems v)) s
+    unfolding flatA amountItems each itemF kindF readF test next hit add reset when
+    amount-does (given n) h = single _ _ _ refl refl
+    amount-does (value n) h = told (sym (append-nil _ ∙ append-nil _)) (single _ _ _ (ap (among (all .taken)) (sym h)) refl)
+
+    pub expr-does : (e : Expr) → PlacedExpr text e → Does text all s (flat e) (each (itemF all (s .vals)) (items e)) s
+    unfolding flat items each itemF kindF readF test next hit add reset when
+    expr-does (plain n) h = single _ _ _ refl refl
+    expr-does (sized w v) h = join (breadthItems w) (amountItems v) (breadth-does w (h .0)) (amount-does v (h .1))
+    expr-does (copies n e) h = ends _ _ _ (expr-does e h) (refl, refl)
+    expr-does (read n) h = told (sym (append-nil _)) (single _ _ _ (ap (λ (l : List ℕ). not (among (all .inputs) l || among (s .vals) l)) (sym h)) refl)
+    expr-does (cell n a) h = ends _ _ _ (expr-does a (h .1)) (refl, refl)
+    expr-does (bit e p i) h = ends _ _ _ (join (items e) (Item.type i ∷ []) (expr-does e (h .0)) (type-item i (h .1))) (refl, refl)
+    expr-does (range e p i j) h = ends _ _ _ (join3 (items e) (Item.type i ∷ []) (Item.type j ∷ []) (expr-does e (h .0)) (type-item i (h .1)) (type-item j (h .2))) (refl, refl)
+    expr-does (inside p e) h = ends _ _ _ (expr-does e h) (refl, refl)
+    expr-does (joined p e) h = ends _ _ _ (expr-does e h) (refl, refl)
+    expr-does (beside a b) h = ends _ _ _ (join (items a) (items b) (expr-does a (h .0)) (expr-does b (h .1))) (refl, refl)
+    expr-does (unary u e) h = ends _ _ _ (expr-does e h) (refl, refl)
+    expr-does (binary o a b) h = ends _ _ _ (join (items a) (items b) (expr-does a (h .0)) (expr-does b (h .1))) (refl, refl)
+    expr-does (choice c a b) h = ends _ _ _ (join3 (items c) (items a) (items b) (expr-does c (h .0)) (expr-does a (h .1)) (expr-does b (h .2))) (refl, refl)
+    expr-does (either p c a b) h = ends _ _ _ (join3 (items c) (items a) (items b) (expr-does c (h .0)) (expr-does a (h .1)) (expr-does b (h .2))) (refl, refl)
+    expr-does (select p e a) h = ends _ _ _ (join (items e) (items a) (ends _ _ _ (expr-does e (h .0)) (refl, refl)) (expr-does a (h .1))) (refl, refl)
+    expr-does (arm n e r) h = ends _ _ _ (join (items e) (items r) (expr-does e (h .0)) (expr-does r (h .1))) (refl, refl)
+    expr-does (default p e) h = ends _ _ _ (expr-does e h) (refl, refl)

@@ -1,0 +1,136 @@
+-- The names of a class on a part of the tape, item by item; the test of an item by its operation; the places so far. Assumes nothing.
+use mathlib.Core.Path.{_≡_, refl, sym, ap, ap₂, _∙_}
+use mathlib.Core.Bool.{Bool, true, false, not, _||_}
+use mathlib.Core.List.{List, [], _∷_, _++_}
+use mathlib.Core.Option.{Option, none, some}
+use mathlib.Core.Logic.{⊎-elim}
+use native.Mathlib.Numerals.{add-one}
+use Prim.Native.Nat.{ℕ, suc, _+_, _-_, _≤_, _<_}
+use native.Mathlib.Omega.{arith}
+use lib.Dec.{eqb}
+use borrow.Author.Tests.{ne-eqb}
+use Rattle.language.specs.Text.{same, among, earliest}
+use Rattle.words.specs.Found.{placeTold, earlierOf}
+use Rattle.words.specs.declared.Place.{Place}
+use Rattle.words.specs.declared.Place.the-variants.{Nowhere}
+use Rattle.syntax.specs.Tape.{END, RULED}
+use Rattle.placed.proofs.Members.{member-append, member-left, member-right}
+use Rattle.placed.proofs.Earliest.{earliest-same}
+use Rattle.placed.specs.Placed.{nameFrom}
+use Rattle.known.specs.Walk.{opAt, placeAt, valueAt, hit, add, namesOn, between, test, faulty, put, after, pick, faultsAt}
+use Rattle.known.specs.declared.Class.{Class}
+use Rattle.known.specs.declared.Class.the-variants.{Signed, Declared, Input, Output, Taken, Present, Val}
+
+module _ (text t : List ℕ) (c : Class) (from : ℕ) (s : List ℕ) where
+  -- whether the name is among those before item i
+  abbrev pub Left : ℕ → Bool
+  Left i = among (between text t c from i) s
+
+  module _ (i : ℕ) (h : from < i) where
+    last : namesOn text t c from (i - from) ≡ add (hit c (opAt t (i - 1)) (valueAt t (i - 1))) (nameFrom text (placeAt t (i - 1))) (namesOn text t c from (i - 1 - from))
+    unfolding namesOn
+    last = let e : i - from ≡ suc (i - 1 - from) = omega arith in let f : from + (i - 1 - from) ≡ i - 1 = omega arith in rw (e, f)
+
+    pub said-other : hit c (opAt t (i - 1)) (valueAt t (i - 1)) ≡ false → Left (i - 1) ≡ Left i
+    unfolding add
+    said-other e = sym (ap (λ (l : List (List ℕ)). among l s) last ∙ simp (add, e))
+
+    module _ (e : hit c (opAt t (i - 1)) (valueAt t (i - 1)) ≡ true) where
+      pub said-here : same (nameFrom text (placeAt t (i - 1))) s ≡ true → true ≡ Left i
+      unfolding add among
+      said-here q = sym (ap (λ (l : List (List ℕ)). among l s) last ∙ simp (add, among, e, q))
+
+      pub said-next : same (nameFrom text (placeAt t (i - 1))) s ≡ false → Left (i - 1) ≡ Left i
+      unfolding add among
+      said-next q = sym (ap (λ (l : List (List ℕ)). among l s) last ∙ simp (add, among, e, q))
+
+  pub said-none : (i : ℕ) → i ≤ from → false ≡ Left i
+  unfolding namesOn among
+  said-none i h = let e : i - from ≡ 0 = omega arith in rw e
+
+-- ---- the test of an item, by what was said of the name at its place
+
+module _ (text t : List ℕ) (many rule lets i p : ℕ) (e : p ≡ placeAt t i) where
+  pub at-signed : opAt t i ≡ 46 → {r a b : Bool} → r ≡ (a || not b) → a ≡ among (between text t Signed 0 i) (nameFrom text p) → b ≡ among (between text t Declared 0 many) (nameFrom text p) → r ≡ faulty text t many rule lets i
+  unfolding test
+  at-signed k q x y = rw (q, x, y, e, k)
+
+  pub at-declared : opAt t i ≡ 43 → {r a b : Bool} → r ≡ (not a || b) → a ≡ among (between text t Signed 0 many) (nameFrom text p) → b ≡ among (between text t Taken 0 i) (nameFrom text p) → r ≡ faulty text t many rule lets i
+  unfolding test
+  at-declared k q x y = rw (q, x, y, e, k)
+
+  pub at-memory : opAt t i ≡ 44 → {r a : Bool} → r ≡ a → a ≡ among (between text t Taken 0 i) (nameFrom text p) → r ≡ faulty text t many rule lets i
+  unfolding test
+  at-memory k q x = rw (q, x, e, k)
+
+  pub at-environment : opAt t i ≡ 2 → {r a : Bool} → r ≡ a → a ≡ among (between text t Taken 0 many) (nameFrom text p) → r ≡ faulty text t many rule lets i
+  unfolding test
+  at-environment k q x = rw (q, x, e, k)
+
+  pub at-value : opAt t i ≡ 15 → {r a : Bool} → r ≡ a → a ≡ among (between text t Taken 0 many) (nameFrom text p) → r ≡ faulty text t many rule lets i
+  unfolding test
+  at-value k q x = rw (q, x, e, k)
+
+  pub at-port : opAt t i ≡ 3 → {r a : Bool} → r ≡ (not a) → a ≡ among (between text t Declared 0 many) (nameFrom text p) → r ≡ faulty text t many rule lets i
+  unfolding test
+  at-port k q x = rw (q, x, e, k)
+
+  pub at-present : opAt t i ≡ 38 → {r a b : Bool} → r ≡ (not a || b) → a ≡ among (between text t Declared 0 many) (nameFrom text p) → b ≡ among (between text t Present rule i) (nameFrom text p) → r ≡ faulty text t many rule lets i
+  unfolding test
+  at-present k q x y = rw (q, x, y, e, k)
+
+  pub at-read : opAt t i ≡ 18 → {r a b : Bool} → r ≡ (not (a || b)) → a ≡ among (between text t Input 0 many) (nameFrom text p) → b ≡ among (between text t Val lets i) (nameFrom text p) → r ≡ faulty text t many rule lets i
+  unfolding test
+  at-read k q x y = rw (q, x, y, e, k)
+
+  pub at-assign : opAt t i ≡ 33 → {r a : Bool} → r ≡ (not a) → a ≡ among (between text t Output 0 many) (nameFrom text p) → r ≡ faulty text t many rule lets i
+  unfolding test
+  at-assign k q x = rw (q, x, e, k)
+
+  pub at-val : opAt t i ≡ 37 → {r a b : Bool} → r ≡ (a || b) → a ≡ among (between text t Val lets i) (nameFrom text p) → b ≡ among (between text t Taken 0 many) (nameFrom text p) → r ≡ faulty text t many rule lets i
+  unfolding test
+  at-val k q x y = rw (q, x, y, e, k)
+
+  pub at-none : (opAt t i ≡ 46 → ⊥) → (opAt t i ≡ 43 → ⊥) → (opAt t i ≡ 44 → ⊥) → (opAt t i ≡ 2 → ⊥) → (opAt t i ≡ 15 → ⊥) → (opAt t i ≡ 3 → ⊥) → (opAt t i ≡ 38 → ⊥) → (opAt t i ≡ 18 → ⊥) → (opAt t i ≡ 33 → ⊥) → (opAt t i ≡ 37 → ⊥) → false ≡ faulty text t many rule lets i
+  unfolding test
+  at-none k1 k2 k3 k4 k5 k6 k7 k8 k9 k10 = sym (simp (test, ne-eqb _ _ k1, ne-eqb _ _ k2, ne-eqb _ _ k3, ne-eqb _ _ k4, ne-eqb _ _ k5, ne-eqb _ _ k6, ne-eqb _ _ k7, ne-eqb _ _ k8, ne-eqb _ _ k9, ne-eqb _ _ k10))
+
+-- ---- the places so far
+
+told-earlier : (p : ℕ) (ps : List ℕ) → placeTold (earliest (p ∷ ps)) ≡ earlierOf p (placeTold (earliest ps))
+unfolding earliest placeTold earlierOf
+told-earlier p ps = go (earliest ps) refl
+  where
+    go : (o : Option ℕ) → earliest ps ≡ o → placeTold (earliest (p ∷ ps)) ≡ earlierOf p (placeTold (earliest ps))
+    go none e = simp (earliest, e)
+    go (some q) e = simp (earliest, e)
+
+told-last : (p : ℕ) (ps : List ℕ) → placeTold (earliest (ps ++ (p ∷ []))) ≡ earlierOf p (placeTold (earliest ps))
+told-last p ps = ap placeTold (earliest-same {xs = ps ++ (p ∷ [])} {ys = p ∷ ps} (λ q m. ⊎-elim (λ n. member-right (p ∷ []) n) (λ n. member-left ps n) (member-append ps m)) (λ q m. ⊎-elim (λ n. member-right ps n) (λ n. member-left (p ∷ []) n) (member-append (p ∷ []) m))) ∙ told-earlier p ps
+
+module _ (text t : List ℕ) (many i rule lets : ℕ) (r : rule ≡ after RULED t i) (l : lets ≡ after END t i) {first : Place} (f : first ≡ placeTold (earliest (faultsAt text t many i))) where
+  pub fault-more : faulty text t many rule lets i ≡ true → earlierOf (placeAt t i) first ≡ placeTold (earliest (faultsAt text t many (i + 1)))
+  unfolding faultsAt put
+  fault-more e = rw (add-one i) (sym (ap (λ (b : Bool). placeTold (earliest (put b (placeAt t i) (faultsAt text t many i)))) (ap₂ (λ (x y : ℕ). faulty text t many x y i) (sym r) (sym l) ∙ e) ∙ told-last _ _ ∙ ap (earlierOf (placeAt t i)) (sym f)))
+
+  pub fault-same : faulty text t many rule lets i ≡ false → first ≡ placeTold (earliest (faultsAt text t many (i + 1)))
+  unfolding faultsAt put
+  fault-same e = rw (add-one i) (sym (ap (λ (b : Bool). placeTold (earliest (put b (placeAt t i) (faultsAt text t many i)))) (ap₂ (λ (x y : ℕ). faulty text t many x y i) (sym r) (sym l) ∙ e) ∙ sym f))
+
+pub no-fault : (text t : List ℕ) (many : ℕ) → Nowhere ≡ placeTold (earliest (faultsAt text t many 0))
+unfolding faultsAt earliest placeTold
+no-fault text t many = refl
+
+-- from where on items count after one more item
+pub after-more : (o : ℕ) (t : List ℕ) (i : ℕ) {x y : ℕ} → x ≡ after o t i → y ≡ pick (eqb (opAt t i) o) (i + 1) x → y ≡ after o t (i + 1)
+unfolding after
+after-more o t i e q = rw (add-one i) (q ∙ rw (add-one i, e))
+
+pub pick-within : (b : Bool) (i x : ℕ) {y : ℕ} → x ≤ i → y ≡ pick b (i + 1) x → y ≤ i + 1
+unfolding pick
+pick-within true i x h e = omega arith
+pick-within false i x h e = omega arith
+
+pub after-start : (o : ℕ) (t : List ℕ) → 0 ≡ after o t 0
+unfolding after
+after-start o t = refl

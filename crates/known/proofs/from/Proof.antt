@@ -1,0 +1,15 @@
+-- `known::from` meets its contract. Assumes nothing.
+use Rattle.known.specs.Walk.{pick}
+use Rattle.known.proofs.from.Statement.{statement}
+use Rattle.known.proofs.from.Tie as tie
+
+returns : tie.Need-returns
+unfolding pick
+returns c = rw (c .if1 .taken)
+
+returns-2 : tie.Need-returns-2
+unfolding pick
+returns-2 c = rw (c .if1 .left)
+
+pub from-spec : {M : Type 1} → statement M
+from-spec = tie.close (tie.spec returns returns-2)
