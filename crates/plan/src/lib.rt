@@ -1,6 +1,6 @@
 // The plan: its items, its layout, and whether any list of numbers is a sound plan.
-// What comes in: a list of 32-bit numbers. What goes out: whether it is sound; and, in specs/,
-// the plan of an accepted actor.
+// What comes in: a list of 32-bit numbers. What goes out: whether it is sound, and its numbers
+// by name. The plan of an accepted actor is a definition of the crate `planned`.
 mod items;
 mod layout;
 mod rules;
