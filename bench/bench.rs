@@ -500,6 +500,18 @@ fn best(l: &[f64]) -> f64 {
     l.iter().cloned().fold(f64::MAX, f64::min)
 }
 
+// the round in the middle, and those that leave a twentieth of the rounds on either side
+fn spread(mut l: Vec<f64>) -> String {
+    l.sort_by(f64::total_cmp);
+    let at = |k: usize| l[(l.len() - 1) * k / 20];
+    format!("{:.2} ({:.2} to {:.2})", at(10), at(1), at(19))
+}
+
+// each round's quotient: both were timed one right after the other
+fn ratios(l: &[f64], m: &[f64]) -> String {
+    spread(l.iter().zip(m).map(|(x, y)| x / y).collect())
+}
+
 fn items_fired(p: &[u32]) -> usize {
     let n = p[1] as usize;
     let g0 = 3 + n + 2 * p[2 + n] as usize;
@@ -523,23 +535,65 @@ fn measure(name: &str, p: &[u32], rng: &mut Rng, work: usize, rounds: usize) {
         let mut m = t.memory.clone();
         cycles.push(timed(|| for j in 0..k { proved_cycle(p, t.masks[j], &t.values[n * j..n * j + n], &mut m, &mut o[n * j..n * j + n]); }));
     }
-    let (run, rust, cycle, each) = (best(&runs), best(&rusts), best(&cycles), (k * items) as f64);
+    let each = (k * items) as f64;
     println!(
-        "{name}: {} numbers, {items} items fire; run/Rust {:.2}, cycle/run {:.2}; ns an item: run {:.2}, Rust {:.2}, cycle {:.2}",
-        p.len(), run / rust, cycle / run, run / each, rust / each, cycle / each);
+        "{name}: {} numbers, {items} items fire; run/Rust {}, cycle/run {}; ns an item: run {:.2}, Rust {:.2}, cycle {:.2}",
+        p.len(), ratios(&runs, &rusts), ratios(&cycles, &runs), best(&runs) / each, best(&rusts) / each, best(&cycles) / each);
 }
 
-fn main() {
-    let words: Vec<String> = std::env::args().collect();
-    let work = words.get(1).and_then(|x| x.parse().ok()).unwrap_or(300_000);
-    let rounds = words.get(2).and_then(|x| x.parse().ok()).unwrap_or(200);
-    let only = words.get(3).cloned().unwrap_or_default();
+// ---- how the cost grows with the length of a plan whose statements are drawn at random
+
+const LENGTHS: [(usize, usize); 6] = [(1, 100), (2, 100), (8, 100), (8, 200), (8, 400), (8, 1000)];
+
+fn random(rng: &mut Rng, (groups, items): (usize, usize)) -> Vec<u32> {
+    wide(rng, 8, groups, groups, items, false)
+}
+
+// `cycle` on one plan again and again, and on one after the other of many plans, with as many items together whatever the length
+fn grown(rng: &mut Rng, length: (usize, usize), rounds: usize) {
+    let (mut pool, mut items): (Vec<(Vec<u32>, Tables)>, usize) = (vec![], 0);
+    while items < 16_000 {
+        let p = random(rng, length);
+        items += items_fired(&p);
+        let t = tables(&p, rng, 1, false);
+        pool.push((p, t));
+    }
+    let (mut again, mut after, mut o) = (vec![], vec![], vec![0u64; 16]);
+    for _ in 0..rounds {
+        let mut cycle = |p: &[u32], t: &Tables| {
+            let n = p[1] as usize;
+            proved_cycle(p, t.masks[0], &t.values, &mut t.memory.clone(), &mut o[..n]);
+        };
+        let (p, t) = &pool[0];
+        let k = items / items_fired(p);
+        again.push(timed(|| for _ in 0..k { cycle(p, t); }) / (k * items_fired(p)) as f64);
+        after.push(timed(|| for (p, t) in &pool { cycle(p, t); }) / items as f64);
+    }
+    println!(
+        "{} plans of {} numbers, {} items fire: cycle on one again and again {:.1} ns an item, on one after the other {:.1}",
+        pool.len(), pool[0].0.len(), items_fired(&pool[0].0), best(&again), best(&after));
+}
+
+// so many cycles of one plan, for a tool that counts instructions
+fn counted(k: usize, length: (usize, usize)) {
+    let rng = &mut Rng(3);
+    let p = random(rng, length);
+    let t = tables(&p, rng, k, false);
+    let n = p[1] as usize;
+    let (mut o, mut a) = (vec![0u64; n * k], vec![0u32; 2 * k]);
+    proved_run(&p, &t.masks, &t.values, &mut t.memory.clone(), &mut o, &mut a);
+    let mut m = t.memory.clone();
+    for j in 0..k { proved_cycle(&p, t.masks[j], &t.values[n * j..n * j + n], &mut m, &mut o[n * j..n * j + n]); }
+    println!("{} {}", p.len(), items_fired(&p));
+}
+
+// 300 plans and 6000 with a number changed, which most often are refused
+fn agreed() {
     let mut rng = Rng(1);
     let (mut good, mut refused) = (0, 0);
     for i in 0..300 {
         let mut p = wide(&mut rng, 3 + i % 6, 1 + i % 8, i % 9, 100 + 3 * i, i % 2 == 0);
         good += agree(&p, &tables(&p, &mut rng, 20, true));
-        // and with a number changed, which most often is refused
         for _ in 0..20 {
             let t = tables(&p, &mut rng, 2, false);
             let at = rng.below(p.len() as u64) as usize;
@@ -551,11 +605,19 @@ fn main() {
         }
     }
     println!("the machines agree on 300 plans, {good} of 6000 cycles with answer 0, and on 6000 changed ones, {refused} of them not sound");
+}
+
+fn main() {
+    let words: Vec<usize> = std::env::args().skip(1).map(|x| x.parse().expect("a number")).collect();
+    if let [k, length] = words[..] { return counted(k, LENGTHS[length]); }
+    let rounds = words.first().copied().unwrap_or(200);
+    agreed();
     let rng = &mut Rng(2);
     let middle = wide(rng, 4, 2, 2, 256, true);
     let repeating = wide(rng, 8, 8, 8, 1000, true);
-    let largest = wide(rng, 8, 8, 8, 1000, false);
+    let largest = random(rng, LENGTHS[5]);
     for (name, p) in [("small", &small()), ("middle", &middle), ("repeating", &repeating), ("largest", &largest)] {
-        if only.is_empty() || only == name { measure(name, p, rng, work, rounds); }
+        measure(name, p, rng, 300_000, rounds);
     }
+    for length in LENGTHS { grown(rng, length, rounds); }
 }

@@ -1,17 +1,19 @@
 -- The sections' tests, on lists. Assumes nothing.
-use Prim.Native.Nat.{ℕ, zero, suc, _+_, _-_, _*_, _%_, _^_, _≤_, _<_}
+use Prim.Native.Nat.{ℕ, zero, suc, _+_, _-_, _*_, _%_, _^_, _≤_, _<_, min}
 use mathlib.Core.Path.{_≡_, refl, sym, ap, ap₂, _∙_}
 use mathlib.Core.List.{List, [], _∷_}
-use mathlib.Core.Bool.{Bool, true, false, _&&_, and-assoc}
+use mathlib.Core.Bool.{Bool, true, false, _&&_, and-assoc, and-true, and-false}
 use native.Mathlib.Numerals.{add-one}
 use native.Mathlib.Omega.{arith}
 use lib.ListN.{length, getD}
 use lib.Dec.{eqb, leb, ltb}
-use native.Mathlib.Nat.{mul-le-mul}
+use native.Mathlib.Nat.{mod-lt, one-mul, zero-mul}
+use lib.Bits.{bitAnd}
+use lib.Pow.{pow-pos}
 use native.Mathlib.Decide.{decLt}
-use borrow.Author.Tests.{leb-true, eqb-true, lt-ltb, le-ltb}
-use Rattle.language.specs.Values.{bitOf, orOf}
-use Rattle.value.proofs.Digits.{bit-lt}
+use borrow.Author.Tests.{leb-true, eqb-true, lt-ltb, le-ltb, ne-eqb}
+use Rattle.language.specs.Values.{bitOf, numberOf, orOf}
+use Rattle.value.proofs.Digits.{bit-lt, bit-low, by-bits, and-bit}
 use Rattle.plan.specs.Layout.{form, portCount, portAt, memoryCount, groupCount, groupAt, rulesBefore, ruleCount, presentAt, absentAt, lengthAt, codeBefore, codeFrom, codeCount}
 use Rattle.plan.specs.Sound.{allUpTo, apart, portOk, memoryFits, groupOk, ruleOk, sectionsOk, Ended, ended, unended, ruleCheck, joined, groupCheck, groupsCheck, soundOf}
 use Rattle.plan.specs.Steps.{endAt, portsPart, memoriesPart, groupsPart, rulesPart}
@@ -21,19 +23,39 @@ pub all-next : (p : List ℕ) (n : ℕ) (f : ℕ → Bool) {a b : Bool} → a �
 unfolding allUpTo
 all-next p n f d e = rw (add-one n) (ap₂ _&&_ d e)
 
-pub apart-next : (p : List ℕ) (a b k : ℕ) {c : Bool} {x y : ℕ} → c ≡ apart p a b k → x ≡ bitOf a k → y ≡ bitOf b k → (c && eqb (x * y) 0) ≡ apart p a b (k + 1)
-unfolding apart
-apart-next p a b k c d e = rw (add-one k) (rw (c, d, e))
+-- no bit below k is in both masks where the number of the bits that both have is 0
+nothing : (n m : ℕ) → m ≡ 0 * n + m
+nothing n m = let e = zero-mul n in omega arith
+
+both-zero : (x y n m : ℕ) → x < 2 → y < 2 → 0 < n → (eqb m 0 && eqb (x * y) 0) ≡ eqb (min x y * n + m) 0
+both-zero zero zero n m hx hy h = and-true (eqb m 0) ∙ ap (λ (k : ℕ). eqb k 0) (nothing n m)
+both-zero zero (suc zero) n m hx hy h = and-true (eqb m 0) ∙ ap (λ (k : ℕ). eqb k 0) (nothing n m)
+both-zero (suc zero) zero n m hx hy h = and-true (eqb m 0) ∙ ap (λ (k : ℕ). eqb k 0) (nothing n m)
+both-zero (suc zero) (suc zero) n m hx hy h = and-false (eqb m 0) ∙ sym (ne-eqb (1 * n + m) 0 (λ (e : 1 * n + m ≡ 0). let f = one-mul n in omega (arith, e, f, h)))
+both-zero (suc (suc x)) y n m hx hy h = absurd (omega arith)
+both-zero (suc zero) (suc (suc y)) n m hx hy h = absurd (omega arith)
+both-zero zero (suc (suc y)) n m hx hy h = absurd (omega arith)
+
+apart-number : (p : List ℕ) (a b k : ℕ) → apart p a b k ≡ eqb (numberOf k (λ i. min (bitOf a i) (bitOf b i))) 0
+unfolding apart numberOf
+apart-number p a b zero = refl
+apart-number p a b (suc k) =
+    ap (λ (c : Bool). c && eqb (bitOf a k * bitOf b k) 0) (apart-number p a b k)
+    ∙ both-zero (bitOf a k) (bitOf b k) (2 ^ k) (numberOf k (λ i. min (bitOf a i) (bitOf b i))) (bit-lt a k) (bit-lt b k) (pow-pos k)
+
+pub apart-low : (p : List ℕ) (a b k : ℕ) → eqb (bitAnd a b % 2 ^ k) 0 ≡ apart p a b k
+apart-low p a b k =
+    ap (λ (n : ℕ). eqb n 0) (by-bits k (bitAnd a b % 2 ^ k) (λ i. min (bitOf a i) (bitOf b i)) (mod-lt (bitAnd a b) (pow-pos k)) (λ i l. bit-low (bitAnd a b) k i l ∙ and-bit a b i))
+    ∙ sym (apart-number p a b k)
+
+-- the code of a rule begins where that of the rule before it ends
+pub code-next : (p : List ℕ) (r : ℕ) {n : ℕ} → n ≡ lengthAt p r → codeBefore p r + n ≡ codeBefore p (suc r)
+unfolding codeBefore
+code-next p r e = ap (λ (n : ℕ). codeBefore p r + n) e
 
 pub sections-parts : (p : List ℕ) → sectionsOk p ≡ (portsPart p && (memoriesPart p && (groupsPart p && rulesPart p)))
 unfolding sectionsOk portsPart memoriesPart groupsPart rulesPart
 sections-parts p = simp and-assoc
-
-pub bits-small : (a b k l : ℕ) {x y : ℕ} → x ≡ bitOf a k → y ≡ bitOf b l → x * y ≤ 1
-bits-small a b k l {x} {y} d e = let h : x ≤ 1 = rw d (bit-most a k) in let j : y ≤ 1 = rw e (bit-most b l) in mul-le-mul h j
-  where
-    bit-most : (a k : ℕ) → bitOf a k ≤ 1
-    bit-most a k = let h = bit-lt a k in omega arith
 
 -- ---- what the sections of a sound plan hold
 

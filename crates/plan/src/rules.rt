@@ -6,8 +6,12 @@ ghost use lib.ListN.{length};
 ghost use Rattle.plan.specs.Layout.{groupCount, ruleCount};
 ghost use Rattle.plan.specs.Sound.{sectionsOk, groupCheck, groupsCheck, soundOf};
 ghost use Rattle.plan.specs.Steps.{endAt};
+use crate::layout::code_before;
+use crate::layout::code_from;
 use crate::layout::group_at;
 use crate::layout::group_count;
+use crate::layout::length_at;
+use crate::layout::place;
 use crate::sections::sections_ok;
 use crate::steps::check_rule;
 
@@ -17,13 +21,15 @@ fn check_group(plan: &[u32], taken: u32, first: u32, count: u32, ws: &mut [u32])
     ensures { λ r. ⌜ endAt r ≡ groupCheck (now (plan .entry)) taken taken first count ⌝ }
 {
     let mut mine = taken;
+    let mut from = code_from(plan) + 1 + code_before(plan, first);
     let mut i = 0u32;
     while i < count {
-        let assigned = check_rule(plan, taken, first + i, ws);
+        let assigned = check_rule(plan, taken, first + i, from, ws);
         if assigned >= 65536 {
             return 65536;
         }
         mine = mine | assigned;
+        from += place(length_at(plan, first + i));
         i += 1;
     }
     mine

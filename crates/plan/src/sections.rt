@@ -1,7 +1,7 @@
 // The sections of a plan: each count within its limit, and what each section holds.
 ghost use mathlib.Core.Path.{_≡_};
 ghost use mathlib.Core.Bool.{_&&_};
-ghost use Prim.Native.Nat.{_+_, _≤_};
+ghost use Prim.Native.Nat.{suc, _+_, _≤_};
 ghost use lib.Dec.{eqb, leb};
 ghost use lib.ListN.{length};
 ghost use Rattle.plan.specs.Layout.{form, portCount, memoryCount, cellsBefore, groupCount, rulesBefore, ruleCount, codeBefore, codeFrom, codeCount};
@@ -9,7 +9,6 @@ ghost use Rattle.plan.specs.Sound.{portOk, memoryFits, groupOk, ruleOk, 
 ghost use Rattle.plan.specs.Sound.{apart as Sound·apart};
 ghost use Rattle.plan.specs.Steps.{portsPart, memoriesPart, groupsPart, rulesPart};
 use crate::layout::absent_at;
-use crate::layout::bit;
 use crate::layout::cells_before;
 use crate::layout::code_before;
 use crate::layout::code_count;
@@ -29,6 +28,7 @@ use crate::layout::rule_count;
 use crate::layout::rules_before;
 use crate::layout::within;
 use language::Plan;
+use value::low;
 
 fn port_ok(plan: &[u32], i: u32) -> bool
     ensures { λ r. ⌜ r ≡ portOk (now (plan .entry)) i ⌝ }
@@ -133,13 +133,7 @@ fn groups_ok(plan: &[u32]) -> bool
 fn apart(plan: &[u32], a: u32, b: u32, k: u32) -> bool
     ensures { λ r. ⌜ r ≡ Sound·apart (now (plan .entry)) a b k ⌝ }
 {
-    let mut ok = true;
-    let mut i = 0u32;
-    while i < k {
-        ok = ok & (bit(a, i) * bit(b, i) == 0);
-        i += 1;
-    }
-    ok
+    low(wide(a & b), k) == 0
 }
 
 fn wide(x: u32) -> u64
@@ -148,8 +142,9 @@ fn wide(x: u32) -> u64
     x as u64
 }
 
-fn rule_ok(plan: &[u32], r: u32) -> bool
-    requires { ⌜ r ≤ 32 ⌝ }
+// The code of the rules up to this one ends within the count.
+fn rule_ok(plan: &[u32], r: u32, end: usize, count: usize) -> bool
+    requires { ⌜ (end ≡ codeBefore (now plan) (suc r)) × (count ≡ codeCount (now plan)) ⌝ }
     ensures { λ x. ⌜ x ≡ ruleOk (now (plan .entry)) r ⌝ }
 {
     let a = present_at(plan, r);
@@ -160,17 +155,19 @@ fn rule_ok(plan: &[u32], r: u32) -> bool
         & apart(plan, a, b, n)
         & (0 < wide(a) + wide(b));
     let whole = length_at(plan, r) % 4 == 0;
-    masks & whole & (code_before(plan, r + 1) <= place(code_count(plan)))
+    masks & whole & (end <= count)
 }
 
-fn rules_hold(plan: &[u32], n: u32) -> bool
-    requires { ⌜ n ≤ 32 ⌝ }
+fn rules_hold(plan: &[u32], n: u32, count: usize) -> bool
+    requires { ⌜ (n ≤ 32) × (count ≡ codeCount (now plan)) ⌝ }
     ensures { λ r. ⌜ r ≡ allUpTo (now (plan .entry)) n (ruleOk (now (plan .entry))) ⌝ }
 {
     let mut ok = true;
+    let mut end = 0usize;
     let mut r = 0u32;
     while r < n {
-        ok = ok & rule_ok(plan, r);
+        end += place(length_at(plan, r));
+        ok = ok & rule_ok(plan, r, end, count);
         r += 1;
     }
     ok
@@ -183,7 +180,7 @@ fn rules_ok(plan: &[u32]) -> bool
 {
     let n = rule_count(plan);
     let code = place(code_count(plan));
-    rules_hold(plan, n)
+    rules_hold(plan, n, code)
         & (code_before(plan, n) == code)
         & (plan.len() == code_from(plan) + 1 + code)
 }

@@ -11,8 +11,6 @@ ghost use Rattle.plan.specs.declared.Item.the-variants.{Keep, Assign, Wr
 use crate::Item;
 use crate::items::fetch;
 use crate::items::takes;
-use crate::layout::code_before;
-use crate::layout::code_from;
 use crate::layout::length_at;
 use crate::layout::memory_width;
 use crate::layout::place;
@@ -174,13 +172,12 @@ fn check_items(
     if n == 0 { assigned } else { 65536 }
 }
 
-// A rule's code, with slots of its own.
-pub fn check_rule(plan: &[u32], taken: u32, r: u32, ws: &mut [u32]) -> u32
-    requires { ⌜ (codeFrom (now plan) + 1 + codeBefore (now plan) r + lengthAt (now plan) r ≤ length (now plan)) × (lengthAt (now plan) r % 4 ≡ 0) × (length (now ws) ≡ 256) × (portCount (now plan) ≤ 16) ⌝ }
+// A rule's code, which stands from a place on, with slots of its own.
+pub fn check_rule(plan: &[u32], taken: u32, r: u32, from: usize, ws: &mut [u32]) -> u32
+    requires { ⌜ (from ≡ codeFrom (now plan) + 1 + codeBefore (now plan) r) × (from + lengthAt (now plan) r ≤ length (now plan)) × (lengthAt (now plan) r % 4 ≡ 0) × (length (now ws) ≡ 256) × (portCount (now plan) ≤ 16) ⌝ }
     ensures { λ x. ⌜ endAt x ≡ ruleCheck (now (plan .entry)) taken r ⌝ }
 {
     let mut ls = [99u32; 48];
-    let from = code_from(plan) + 1 + code_before(plan, r);
     let items = place(length_at(plan, r)) / 4;
     check_items(plan, present_at(plan, r), taken, from, items, ws, &mut ls)
 }

@@ -10,7 +10,7 @@ use Rattle.plan.specs.Layout.{form, portCount, portAt, memoryCount, memo
 use Rattle.plan.specs.Sound.{allUpTo, portOk, memoryFits, groupOk, ruleOk, sectionsOk}
 use Rattle.plan.specs.Sound.{apart as Sound·apart}
 use Rattle.plan.specs.Steps.{portsPart, memoriesPart, groupsPart, rulesPart}
-use Rattle.plan.proofs.Parts.{all-next, apart-next, sections-parts}
+use Rattle.plan.proofs.Parts.{all-next, sections-parts}
 use borrow.Author.Needs.{needs}
 use Rattle.plan.proofs.sections.group_ok.Statement.{statement}
 use Rattle.plan.proofs.sections.group_ok.Tie as tie

@@ -10,7 +10,7 @@ use Rattle.plan.specs.Layout.{form, portCount, portAt, memoryCount, memo
 use Rattle.plan.specs.Sound.{allUpTo, portOk, memoryFits, groupOk, ruleOk, sectionsOk}
 use Rattle.plan.specs.Sound.{apart as Sound·apart}
 use Rattle.plan.specs.Steps.{portsPart, memoriesPart, groupsPart, rulesPart}
-use Rattle.plan.proofs.Parts.{all-next, apart-next, sections-parts}
+use Rattle.plan.proofs.Parts.{all-next, sections-parts}
 use borrow.Author.Tests.{leb-true}
 use Rattle.plan.proofs.Laws.{and-left, and-right}
 use borrow.Author.Needs.{needs}
@@ -53,24 +53,11 @@ add-masks c = search needs
 length-at-requires : tie.Need-length-at-requires
 length-at-requires c κs = search needs
 
-add-code-before : tie.Need-add-code-before
-add-code-before c = search needs
-
-code-before-requires : tie.Need-code-before-requires
-code-before-requires c κs = search needs
-
-code-count-requires : tie.Need-code-count-requires
-code-count-requires c κs = search needs
-
-place-requires : tie.Need-place-requires
-place-requires c κs = search needs
-
 returns : tie.Need-returns
 unfolding ruleOk
-returns c = simp (c .before .before .before .before .before .before .before .before .before .within .ensures, c .before .before .before .before .before .before .before .within2 .ensures, c .before .before .before .before .before .before .before .before .before .before .wide .ensures, c .before .before .before .before .before .before .before .before .wide2 .ensures, c .before .before .before .before .before .wide3 .ensures, c .before .before .before .before .wide4 .ensures, c .before .before .before .before .before .before .apart .ensures, c .before .before .before .before .before .before .before .before .before .before .before .before .before .present-at .ensures, c .before .before .before .before .before .before .before .before .before .before .before .before .absent-at .ensures, c .before .before .before .before .before .before .before .before .before .before .before .port-count .ensures, c .before .before .before .length-at .ensures, c .before .before .code-before .ensures .0, c .place .ensures .0, c .before .code-count .ensures, add-one (c .before .before .before .before .before .before .before .before .before .before .before .before .before .before .before .args .r))
+returns c = simp (c .before .before .before .before .before .before .within .ensures, c .before .before .before .before .within2 .ensures, c .before .before .before .before .before .before .before .wide .ensures, c .before .before .before .before .before .wide2 .ensures, c .before .before .wide3 .ensures, c .before .wide4 .ensures, c .before .before .before .apart .ensures, c .before .before .before .before .before .before .before .before .before .before .present-at .ensures, c .before .before .before .before .before .before .before .before .before .absent-at .ensures, c .before .before .before .before .before .before .before .before .port-count .ensures, c .length-at .ensures, c .before .before .before .before .before .before .before .before .before .before .before .before .pre .0, c .before .before .before .before .before .before .before .before .before .before .before .before .pre .1)
 
 pub rule-ok-spec : {M : Type 1} → statement M
 rule-ok-spec =
     tie.close (tie.spec present-at-requires absent-at-requires port-count-requires wide-requires within-requires wide-requires-2 within-requires-2
-    apart-requires wide-requires-3 wide-requires-4 add-masks length-at-requires add-code-before code-before-requires code-count-requires
-    place-requires returns)
+    apart-requires wide-requires-3 wide-requires-4 add-masks length-at-requires returns)

@@ -10,18 +10,6 @@ use borrow.Author.Needs.{needs}
 use Rattle.plan.proofs.steps.check_rule.Statement.{statement}
 use Rattle.plan.proofs.steps.check_rule.Tie as tie
 
-code-from-requires : tie.Need-code-from-requires
-code-from-requires c κs = search needs
-
-add-from : tie.Need-add-from
-add-from c = search needs
-
-code-before-requires : tie.Need-code-before-requires
-code-before-requires c κs = search needs
-
-add-from-2 : tie.Need-add-from-2
-add-from-2 c = search needs
-
 length-at-requires : tie.Need-length-at-requires
 length-at-requires c κs = search needs
 
@@ -42,9 +30,8 @@ same-length c = search needs
 
 returns : tie.Need-returns
 unfolding ruleCheck codeAt
-returns c = let e : 4 * (c .before .before .before .before .before .before .before .place .result / 4) ≡ lengthAt (c .before .before .before .before .before .before .before .before .before .before .before .before .before .args .plan .now) (c .before .before .before .before .before .before .before .before .before .before .before .before .before .args .r) = omega (arith, c .before .before .before .before .before .before .before .place .ensures .0, c .before .before .before .before .before .before .before .before .length-at .ensures, c .before .before .before .before .before .before .before .before .before .before .before .before .before .pre .1) in c .before .before .before .check-items .ensures ∙ simp (c .before .before .before .before .before .before .present-at .ensures, e, c .before .before .before .before .before .before .before .before .before .before .code-from .ensures .0, c .before .before .before .before .before .before .before .before .before .code-before .ensures .0)
+returns c = let e : 4 * (c .before .before .before .before .before .before .before .place .result / 4) ≡ lengthAt (c .before .before .before .before .before .before .before .before .before .before .before .args .plan .now) (c .before .before .before .before .before .before .before .before .before .before .before .args .r) = omega (arith, c .before .before .before .before .before .before .before .place .ensures .0, c .before .before .before .before .before .before .before .before .length-at .ensures, c .before .before .before .before .before .before .before .before .before .before .before .pre .2) in c .before .before .before .check-items .ensures ∙ simp (c .before .before .before .before .before .before .present-at .ensures, e, c .before .before .before .before .before .before .before .before .before .before .before .pre .0)
 
 pub check-rule-spec : {M : Type 1} → statement M
 check-rule-spec =
-    tie.close (tie.spec code-from-requires add-from code-before-requires add-from-2 length-at-requires place-requires present-at-requires
-    slice-aggregate-check-items check-items-requires same-length returns)
+    tie.close (tie.spec length-at-requires place-requires present-at-requires slice-aggregate-check-items check-items-requires same-length returns)
