@@ -12,7 +12,8 @@ use Rattle.placed.specs.Placed.{Spelled, Every, PlacedDeclared, PlacedVal, Plac
 use Rattle.syntax.specs.Tape.{flatD, isTyped, one-if, flatVal, flatAssignment, flats, flatStatement, flatEntry, flatRule, flatGroup, flatPort, flatSize, flatMemory, flatSigned, flatActor}
 use Rattle.known.specs.Walk.{hit, add, Seen, test}
 use Rattle.known.proofs.Seens.{next, reset, nothing}
-use Rattle.known.proofs.Parts.{pushed, valNames, inputsOnto, outputsOnto, tyF, kindF, exprF, declF, valsF, assignF, statementF, entriesF, ruleF, groupF, signF, portsF, memoriesF, actorF, Does, told, none, both, single, ends, many, type-does, expr-does}
+use Rattle.known.proofs.Does.{told, none, both, single, ends, many}
+use Rattle.known.proofs.Parts.{pushed, valNames, someOnto, inputsOnto, outputsOnto, tyF, kindF, exprF, declF, valsF, assignF, statementF, entriesF, ruleF, groupF, signF, portsF, memoriesF, actorF, DoesAll, type-does, expr-does}
 
 -- the names met in a rule, and in the declarations
 abbrev inside : Seen → (ps vs : List (List ℕ)) → Seen
@@ -25,7 +26,7 @@ abbrev pub final : Actor → Seen
 final a =
     heading (pushed (a .signature) []) (pushed (portNames (a .ports)) []) (inputsOnto (a .ports) []) (outputsOnto (a .ports) []) (pushed (memoryNames (a .memories)) (pushed (portNames (a .ports)) []))
 
-is-input : (b : Bool) (d : Declared) → leb 2 (2 * one-if b + isTyped d) ≡ b
+pub is-input : (b : Bool) (d : Declared) → leb 2 (2 * one-if b + isTyped d) ≡ b
 unfolding one-if isTyped
 is-input true untyped = refl
 is-input true (Declared.typed t) = refl
@@ -45,28 +46,28 @@ port-next : (text : List ℕ) (sg dc ip op tk : List (List ℕ)) (p : Port) → 
 unfolding next hit add reset
 port-next text sg dc ip op tk p h = let a = is-input (p .input) (p .type) in let b = is-output (p .input) (p .type) in cc
 
-module _ {text : List ℕ} {all : Seen} where
-  decl-does : (s : Seen) (d : Declared) → PlacedDeclared text d → Does text all s (flatD d) (declF all d) s
+module _ (text : List ℕ) (all : Seen) where
+  decl-does : (s : Seen) (d : Declared) → PlacedDeclared text d → DoesAll text all s (flatD d) (declF all d) s
   unfolding flatD declF declaredItems each kindF
   decl-does s untyped h = none
-  decl-does s (Declared.typed t) h = told (sym (append-nil (tyF all t))) (type-does s t h)
+  decl-does s (Declared.typed t) h = told (sym (append-nil (tyF all t))) (type-does text all s t h)
 
   -- ---- statements
 
-  vals-does : (s : Seen) (ps lets : List (List ℕ)) (vs : List Val) → Every (PlacedVal text) vs → Does text all (inside s ps lets) (flats flatVal vs) (valsF all lets vs) (inside s ps (pushed (valNames vs) lets))
+  vals-does : (s : Seen) (ps lets : List (List ℕ)) (vs : List Val) → Every (PlacedVal text) vs → DoesAll text all (inside s ps lets) (flats flatVal vs) (valsF all lets vs) (inside s ps (pushed (valNames vs) lets))
   unfolding flats flatVal valsF pushed valNames exprF test next hit add reset
   vals-does s ps lets [] h = none
   vals-does s ps lets (v ∷ vs) h =
-      both (both (both (decl-does _ (v .type) (h .0 .type)) (expr-does (inside s ps lets) (v .value) (h .0 .value)))
+      both (both (both (decl-does _ (v .type) (h .0 .type)) (expr-does text all (inside s ps lets) (v .value) (h .0 .value)))
       (single _ _ _ (ap (λ (l : List ℕ). among lets l || among (all .taken) l) (sym (h .0 .called))) (ap (λ (l : List ℕ). inside s ps (l ∷ lets)) (sym (h .0 .called)))))
       (vals-does s ps (v .called .spelled ∷ lets) vs (h .1))
 
-  assign-does : (s : Seen) (x : Assignment) → PlacedAssignment text x → Does text all s (flatAssignment x) (assignF all (s .vals) x) s
+  assign-does : (s : Seen) (x : Assignment) → PlacedAssignment text x → DoesAll text all s (flatAssignment x) (assignF all (s .vals) x) s
   unfolding flatAssignment assignF exprF test next hit add reset
-  assign-does s (assign n e) h = both (expr-does s e (h .1)) (single _ _ _ (ap (λ (l : List ℕ). not (among (all .outputs) l)) (sym (h .0))) refl)
-  assign-does s (write n x e) h = ends _ _ _ (both (expr-does s x (h .1)) (expr-does s e (h .2))) (refl, refl)
+  assign-does s (assign n e) h = both (expr-does text all s e (h .1)) (single _ _ _ (ap (λ (l : List ℕ). not (among (all .outputs) l)) (sym (h .0))) refl)
+  assign-does s (write n x e) h = ends _ _ _ (both (expr-does text all s x (h .1)) (expr-does text all s e (h .2))) (refl, refl)
 
-  statement-does : (s : Seen) (ps : List (List ℕ)) (x : Statement) → PlacedStatement text x → Does text all (inside s ps []) (flatStatement x) (statementF all x) (inside s ps [])
+  statement-does : (s : Seen) (ps : List (List ℕ)) (x : Statement) → PlacedStatement text x → DoesAll text all (inside s ps []) (flatStatement x) (statementF all x) (inside s ps [])
   unfolding flatStatement statementF test next hit add reset when
   statement-does s ps (alone x) h = assign-does (inside s ps []) x h
   statement-does s ps (scoped vs l) h =
@@ -75,38 +76,38 @@ module _ {text : List ℕ} {all : Seen} where
 
   -- ---- rules and groups
 
-  entries-does : (s : Seen) (ps : List (List ℕ)) (es : List Entry) → Every (PlacedEntry text) es → Does text all (inside s ps []) (flats flatEntry es) (entriesF all ps es) (inside s (pushed (entryNames es) ps) [])
+  entries-does : (s : Seen) (ps : List (List ℕ)) (es : List Entry) → Every (PlacedEntry text) es → DoesAll text all (inside s ps []) (flats flatEntry es) (entriesF all ps es) (inside s (pushed (entryNames es) ps) [])
   unfolding flats flatEntry entriesF pushed entryNames each test next hit add reset
   entries-does s ps [] h = none
   entries-does s ps (e ∷ es) h =
       both (single _ _ _ (ap (λ (l : List ℕ). not (among (all .declared) l) || among ps l) (sym (h .0))) (ap (λ (l : List ℕ). inside s (l ∷ ps) []) (sym (h .0))))
       (entries-does s (e .called .spelled ∷ ps) es (h .1))
 
-  rule-does : (s : Seen) (r : Rule) → PlacedRule text r → Does text all (inside s [] []) (flatRule r) (ruleF all r) (inside s [] [])
+  rule-does : (s : Seen) (r : Rule) → PlacedRule text r → DoesAll text all (inside s [] []) (flatRule r) (ruleF all r) (inside s [] [])
   unfolding flatRule ruleF test next hit add reset when
   rule-does s r h =
       let ps = pushed (entryNames (r .list)) [] in
       told (append-nil _) (both (both (both (single _ _ _ refl refl) (entries-does s [] (r .list) (h .list))) (many flatStatement (statementF all) (statement-does s ps) (r .body) (h .body))) (single _ _ _ refl refl))
 
-  group-does : (s : Seen) (g : Group) → PlacedGroup text g → Does text all (inside s [] []) (flatGroup g) (groupF all g) (inside s [] [])
+  group-does : (s : Seen) (g : Group) → PlacedGroup text g → DoesAll text all (inside s [] []) (flatGroup g) (groupF all g) (inside s [] [])
   unfolding flatGroup groupF test next hit add reset when
   group-does s g h = ends _ _ _ (both (single _ _ _ refl refl) (many flatRule (ruleF all) (rule-does s) (g .rules) h)) (refl, refl)
 
   -- ---- declarations and the actor
 
   module _ (ip op dc : List (List ℕ)) where
-    signed-does : (tk sg : List (List ℕ)) (ns : List Name) → Every (Spelled text) ns → Does text all (heading sg dc ip op tk) (flats flatSigned ns) (signF all sg ns) (heading (pushed ns sg) dc ip op tk)
+    signed-does : (tk sg : List (List ℕ)) (ns : List Name) → Every (Spelled text) ns → DoesAll text all (heading sg dc ip op tk) (flats flatSigned ns) (signF all sg ns) (heading (pushed ns sg) dc ip op tk)
     unfolding flats flatSigned signF pushed test next hit add reset
     signed-does tk sg [] h = none
     signed-does tk sg (n ∷ ns) h =
         both (single _ _ _ (ap (λ (l : List ℕ). among sg l || not (among (all .declared) l)) (sym (h .0))) (ap (λ (l : List ℕ). heading (l ∷ sg) dc ip op tk) (sym (h .0)))) (signed-does tk (n .spelled ∷ sg) ns (h .1))
 
-    size-does : (s : Seen) (z : Size) → Does text all s (flatSize z) [] s
+    size-does : (s : Seen) (z : Size) → DoesAll text all s (flatSize z) [] s
     unfolding flatSize test next hit add reset when
     size-does s one = none
     size-does s (cells n) = single _ _ _ refl refl
 
-    memories-does : (sg tk : List (List ℕ)) (ms : List Memory) → Every (PlacedMemory text) ms → Does text all (heading sg dc ip op tk) (flats flatMemory ms) (memoriesF all tk ms) (heading sg dc ip op (pushed (memoryNames ms) tk))
+    memories-does : (sg tk : List (List ℕ)) (ms : List Memory) → Every (PlacedMemory text) ms → DoesAll text all (heading sg dc ip op tk) (flats flatMemory ms) (memoriesF all tk ms) (heading sg dc ip op (pushed (memoryNames ms) tk))
     unfolding flats flatMemory memoriesF memoryNames pushed test next hit add reset
     memories-does sg tk [] h = none
     memories-does sg tk (m ∷ ms) h =
@@ -114,14 +115,14 @@ module _ {text : List ℕ} {all : Seen} where
         (memories-does sg (m .called .spelled ∷ tk) ms (h .1))
 
   ports-does : (sg dc ip op tk : List (List ℕ)) (ps : List Port) → Every (PlacedPort text) ps
-      → Does text all (heading sg dc ip op tk) (flats flatPort ps) (portsF all tk ps) (heading sg (pushed (portNames ps) dc) (inputsOnto ps ip) (outputsOnto ps op) (pushed (portNames ps) tk))
-  unfolding flats flatPort portsF portNames pushed inputsOnto outputsOnto test
+      → DoesAll text all (heading sg dc ip op tk) (flats flatPort ps) (portsF all tk ps) (heading sg (pushed (portNames ps) dc) (inputsOnto ps ip) (outputsOnto ps op) (pushed (portNames ps) tk))
+  unfolding flats flatPort portsF portNames pushed someOnto test
   ports-does sg dc ip op tk [] h = none
   ports-does sg dc ip op tk (p ∷ ps) h =
       both (both (decl-does _ (p .type) (h .0 .type)) (single _ _ _ (ap (λ (l : List ℕ). not (among (all .signed) l) || among tk l) (sym (h .0 .called))) (port-next text sg dc ip op tk p (h .0 .called))))
       (ports-does sg _ _ _ _ ps (h .1))
 
-  pub actor-does : (a : Actor) → PlacedActor text a → Does text all nothing (flatActor a) (actorF all a) (final a)
+  pub actor-does : (a : Actor) → PlacedActor text a → DoesAll text all nothing (flatActor a) (actorF all a) (final a)
   unfolding flatActor actorF test next hit add reset when
   actor-does a h =
       both (both (both (both (single _ _ _ refl refl) (signed-does [] [] [] [] [] (a .signature) (h .signature))) (ports-does _ [] [] [] [] (a .ports) (h .ports))) (memories-does _ _ _ _ _ (a .memories) (h .memories)))

@@ -10,7 +10,8 @@ use Rattle.language.specs.Names.{when, clashing, missing, repeated, inputNames,
 use Rattle.language.specs.Tree.{Ty, number, environment, port, plus, minus, log, ceil, floor, most, entry, within, Expr, Port, Memory, Entry, Val, Assignment, assign, write, Statement, alone, scoped, Rule, Group, Actor, spelledOf, portNames, memoryNames}
 use Rattle.known.specs.Walk.{Seen}
 use Rattle.known.proofs.Parts.{pushed, valNames, tyF, kindF, readF, itemF, exprF, declF, valsF, assignF, statementF, entriesF, ruleF, groupF, signF, portsF, memoriesF, actorF, each-append}
-use Rattle.known.proofs.Same.{Same, is, equal, then, beside, swap, mix, Split, both, first, second, of, into, split-each, when-or, split-or, each-as, each-each, or-false, among-append, among-pushed, repeated-append}
+use Rattle.known.proofs.Listed.{inStatement, valuesOf, listed-scoped, listed-groups, listed-actor}
+use Rattle.known.proofs.Same.{Same, is, equal, then, beside, swap, mix, Split, both, first, second, of, into, split-each, when-or, split-or, or-false, among-append, among-pushed, repeated-append}
 
 -- the names of the whole tape are those of the actor
 pub record Agree (all : Seen) (a : Actor) : Type 0 where
@@ -118,31 +119,15 @@ module _ (all : Seen) (a : Actor) (h : Agree all a) where
           (when (among (lets ++ (ports a ++ memories a)) (v .called .spelled)) (v .called .at) ++ readFaults a lets (v .value)) (kinds (declaredItems (v .type)) ++ kinds (items (v .value)))
       here = of (swap (declF all (v .type) ++ exprF all lets (v .value)) _) (both (tested (v .called .at) free) (both (second (declF all (v .type))) (expr-same lets lets (λ s. refl) (v .value))))
 
-  abbrev inStatement : Statement → List Item
-  inStatement s = valItems s ++ each items (wholes s)
-
-  assigned-kinds : (l : List Assignment) → each (λ (x : Assignment). kinds (each items (assigned x))) l ≡ kinds (each items (each assigned l))
-  assigned-kinds l = sym (ap (each (kindF all)) (each-each items assigned (each-append items) l) ∙ each-each (kindF all) (λ (x : Assignment). each items (assigned x)) (each-append (kindF all)) l)
-
   statement-same : (x : Statement) → Split (statementF all x) (statementFaults a x) (kinds (inStatement x))
   unfolding statementF statementFaults valItems wholes each among
   statement-same (alone x) = assign-same [] [] (λ s. refl) x
   statement-same (scoped vs l) =
-      into (equal _) (is listed)
+      into (equal _) (is (listed-scoped (kindF all) (each (λ (v : Val). declaredItems (v .type)) vs) (valuesOf vs) l))
       (both (vals-same [] vs) (split-each (assignF all (pushed (valNames vs) [])) (assignmentFaults a (each (λ (v : Val). v .called .spelled ∷ []) vs)) (λ (x : Assignment). kinds (each items (assigned x))) (assign-same _ _ lets) l))
     where
       lets : (s : List ℕ) → among (pushed (valNames vs) []) s ≡ among (each (λ (v : Val). v .called .spelled ∷ []) vs) s
       lets s = among-pushed s (valNames vs) [] ∙ or-false _ ∙ ap (λ (l : List (List ℕ)). among l s) (val-names vs)
-
-      types-in : List Item
-      types-in = each (λ (v : Val). declaredItems (v .type)) vs
-
-      values-in : List Expr
-      values-in = each (λ (v : Val). v .value ∷ []) vs
-
-      listed : (kinds types-in ++ kinds (each items values-in)) ++ each (λ (x : Assignment). kinds (each items (assigned x))) l ≡ kinds (types-in ++ each items (values-in ++ each assigned l))
-      listed = append-assoc (kinds types-in) (kinds (each items values-in)) _ ∙ sym (kinds-append types-in (each items (values-in ++ each assigned l)) ∙ ap (λ (r : List ℕ). kinds types-in ++ r)
-          (ap (each (kindF all)) (each-append items values-in (each assigned l)) ∙ kinds-append (each items values-in) (each items (each assigned l)) ∙ ap (λ (r : List ℕ). kinds (each items values-in) ++ r) (sym (assigned-kinds l))))
 
   -- ---- rules and groups
 
@@ -162,17 +147,9 @@ module _ (all : Seen) (a : Actor) (h : Agree all a) where
   groups-same : (gs : List Group) → Split (each (groupF all) gs) (each (λ (g : Group). each (ruleFaults a) (g .rules)) gs) (kinds (each inStatement (each (λ (g : Group). each (λ (r : Rule). r .body) (g .rules)) gs)))
   unfolding groupF
   groups-same gs =
-      into (equal _) (is listed)
+      into (equal _) (is (listed-groups (kindF all) gs))
       (split-each (groupF all) (λ (g : Group). each (ruleFaults a) (g .rules)) (λ (g : Group). each (λ (r : Rule). each (λ (s : Statement). kinds (inStatement s)) (r .body)) (g .rules))
       (λ g. split-each (ruleF all) (ruleFaults a) (λ (r : Rule). each (λ (s : Statement). kinds (inStatement s)) (r .body)) rule-same (g .rules)) gs)
-    where
-      in-rule : List Statement → List ℕ
-      in-rule l = each (λ (s : Statement). kinds (inStatement s)) l
-
-      listed : each (λ (g : Group). each (λ (r : Rule). each (λ (s : Statement). kinds (inStatement s)) (r .body)) (g .rules)) gs ≡ kinds (each inStatement (each (λ (g : Group). each (λ (r : Rule). r .body) (g .rules)) gs))
-      listed = sym (each-each (kindF all) inStatement (each-append (kindF all)) _
-          ∙ each-each (λ (s : Statement). kinds (inStatement s)) (λ (g : Group). each (λ (r : Rule). r .body) (g .rules)) (each-append (λ (s : Statement). kinds (inStatement s))) gs
-          ∙ each-as _ _ (λ g. each-each (λ (s : Statement). kinds (inStatement s)) (λ (r : Rule). r .body) (each-append (λ (s : Statement). kinds (inStatement s))) (g .rules)) gs)
 
   -- ---- declarations and the actor
 
@@ -205,7 +182,7 @@ module _ (all : Seen) (a : Actor) (h : Agree all a) where
   pub actor-same : Same (actorF all a) (nameFaults a)
   unfolding actorF nameFaults declarationFaults typeNameFaults environmentNames actorItems statements
   actor-same =
-      then (all-parts .parts) (then (beside (is (ap (λ (r : List ℕ). r ++ groupFaults) declared)) (then (is typed) (kinds-same (actorItems a) .parts))) (then (is (append-assoc (declarationFaults a) groupFaults (typeNameFaults a))) (beside (equal (declarationFaults a)) (swap groupFaults (typeNameFaults a)))))
+      then (all-parts .parts) (then (beside (is (ap (λ (r : List ℕ). r ++ groupFaults) declared)) (then (is (listed-actor (kindF all) a)) (kinds-same (actorItems a) .parts))) (then (is (append-assoc (declarationFaults a) groupFaults (typeNameFaults a))) (beside (equal (declarationFaults a)) (swap groupFaults (typeNameFaults a)))))
     where
       groupFaults : List ℕ
       groupFaults = each (λ (g : Group). each (ruleFaults a) (g .rules)) (a .groups)
@@ -234,6 +211,3 @@ module _ (all : Seen) (a : Actor) (h : Agree all a) where
 
       declared : (signFaults ++ portFaults) ++ memoryFaults ≡ declarationFaults a
       declared = simp (append-assoc, repeated-append)
-
-      typed : (kinds portTypes ++ kinds memoryTypes) ++ kinds groupItems ≡ kinds (actorItems a)
-      typed = sym (kinds-append portTypes (memoryTypes ++ groupItems) ∙ ap (λ (r : List ℕ). kinds portTypes ++ r) (kinds-append memoryTypes groupItems) ∙ sym (append-assoc (kinds portTypes) (kinds memoryTypes) (kinds groupItems)))

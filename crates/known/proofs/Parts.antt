@@ -1,6 +1,6 @@
 -- What the walk does on each part of an actor: its faulty places, in the order of the tape, and the names that it adds. Assumes nothing.
-use mathlib.Core.Path.{_≡_, refl, sym, ap, ap₂, _∙_, subst}
-use mathlib.Core.Bool.{Bool, true, false, not, _||_}
+use mathlib.Core.Path.{_≡_, refl, sym, ap, _∙_}
+use mathlib.Core.Bool.{Bool, not, _||_}
 use mathlib.Core.List.{List, [], _∷_, _++_, append-assoc, append-nil}
 use Prim.Native.Nat.{ℕ}
 use Rattle.language.specs.Text.{Name, among}
@@ -9,11 +9,11 @@ use Rattle.language.specs.Names.{when}
 use Rattle.language.specs.Tree.{Ty, number, environment, port, plus, minus, log, ceil, floor, most, entry, within, Breadth, bits, Amount, given, value}
 use Rattle.language.specs.Tree.{Expr, plain, sized, copies, read, cell, bit, range, inside, joined, beside, unary, binary, choice, either, select, arm, default}
 use Rattle.language.specs.Tree.{Declared, Port, Memory, Entry, Val, Assignment, assign, write, Statement, alone, scoped, Rule, Group, Actor, portNames}
-use Rattle.placed.specs.Placed.{nameFrom, Every, PlacedType, PlacedBreadth, PlacedAmount, PlacedExpr}
-use Rattle.syntax.specs.Tape.{item, flatT, flatB, flatA, flat, flats}
-use Rattle.known.specs.Walk.{hit, add, Seen, test, put}
-use Rattle.known.proofs.Tapes.{Goes, goes-none, goes-both, goes-item}
-use Rattle.known.proofs.Seens.{next, reset, Ran, ran, meet}
+use Rattle.placed.specs.Placed.{nameFrom, PlacedType, PlacedBreadth, PlacedAmount, PlacedExpr}
+use Rattle.syntax.specs.Tape.{flatT, flatB, flatA, flat}
+use Rattle.known.specs.Walk.{hit, add, Seen, test}
+use Rattle.known.proofs.Does.{Does, told, both, single, ends}
+use Rattle.known.proofs.Seens.{next, reset}
 
 -- ---- the faulty places, in the order of the tape
 
@@ -26,13 +26,16 @@ unfoldable pub valNames : List Val → List Name
 valNames [] = []
 valNames (v ∷ vs) = v .called ∷ valNames vs
 
-unfoldable pub inputsOnto : List Port → List (List ℕ) → List (List ℕ)
-inputsOnto [] l = l
-inputsOnto (p ∷ ps) l = inputsOnto ps (add (p .input) (p .called .spelled) l)
+-- the same of those that a test keeps
+unfoldable pub someOnto : {T : Type 0} → (T → Bool) → (T → List ℕ) → List T → List (List ℕ) → List (List ℕ)
+someOnto keep called [] l = l
+someOnto keep called (x ∷ xs) l = someOnto keep called xs (add (keep x) (called x) l)
 
-unfoldable pub outputsOnto : List Port → List (List ℕ) → List (List ℕ)
-outputsOnto [] l = l
-outputsOnto (p ∷ ps) l = outputsOnto ps (add (not (p .input)) (p .called .spelled) l)
+abbrev pub inputsOnto : List Port → List (List ℕ) → List (List ℕ)
+inputsOnto ps l = someOnto (λ (p : Port). p .input) (λ (p : Port). p .called .spelled) ps l
+
+abbrev pub outputsOnto : List Port → List (List ℕ) → List (List ℕ)
+outputsOnto ps l = someOnto (λ (p : Port). not (p .input)) (λ (p : Port). p .called .spelled) ps l
 
 module _ (all : Seen) where
   unfoldable pub tyF : Ty → List ℕ
@@ -108,52 +111,21 @@ module _ (all : Seen) where
   unfoldable pub actorF : Actor → List ℕ
   actorF a = ((signF [] (a .signature) ++ portsF [] (a .ports)) ++ memoriesF (pushed (portNames (a .ports)) []) (a .memories)) ++ each groupF (a .groups)
 
--- ---- what the walk does on a list of numbers, whatever stands before and after it
+-- ---- what the walk of row 6 does on a list of numbers, whatever stands before and after it
 
-pub record Does (text : List ℕ) (all : Seen) (s : Seen) (a f : List ℕ) (s' : Seen) : Type 0 where
-  pub goes : (fs : List ℕ) → Goes (meet text all) (ran fs s) a (ran (fs ++ f) s')
+abbrev pub DoesAll : (text : List ℕ) → (all s : Seen) → (a f : List ℕ) → Seen → Type 0
+DoesAll text all s a f s' = Does (λ s o p v. test all s o (nameFrom text p)) (next text) s a f s'
 
 pub each-append : {A B : Type 0} (f : A → List B) (a b : List A) → each f (a ++ b) ≡ each f a ++ each f b
 unfolding each
 each-append f [] b = refl
 each-append f (x ∷ a) b = ap (λ (r : List _). f x ++ r) (each-append f a b) ∙ sym (append-assoc (f x) (each f a) (each f b))
 
-put-when : (b : Bool) (p : ℕ) (fs : List ℕ) → put b p fs ≡ fs ++ when b p
-unfolding put when
-put-when true p fs = refl
-put-when false p fs = sym (append-nil fs)
-
-more : {step : Ran → ℕ → ℕ → ℕ → Ran} {r : Ran} {s : Seen} {a f g : List ℕ} → f ≡ g → Goes step r a (ran f s) → Goes step r a (ran g s)
-more {step} {r} {s} {a} e d = subst (λ (f : List ℕ). Goes step r a (ran f s)) e d
-
-module _ {text : List ℕ} {all : Seen} where
-  pub told : {s s' : Seen} {a f g : List ℕ} → f ≡ g → Does text all s a f s' → Does text all s a g s'
-  told {s} {s'} {a} e d = subst (λ (f : List ℕ). Does text all s a f s') e d
-
-  pub none : {s : Seen} → Does text all s [] [] s
-  none = record { goes = λ fs. more (sym (append-nil fs)) goes-none }
-
-  pub both : {s s' s'' : Seen} {a b f g : List ℕ} → Does text all s a f s' → Does text all s' b g s'' → Does text all s (a ++ b) (f ++ g) s''
-  both {f = f} {g = g} d e = record { goes = λ fs. more (append-assoc fs f g) (goes-both (d .goes fs) (e .goes (fs ++ f))) }
-
-  pub single : {s s' : Seen} (o p v : ℕ) {b : Bool} → test all s o (nameFrom text p) ≡ b → next text s o p v ≡ s' → Does text all s (item o p v) (when b p) s'
-  unfolding meet
-  single {s} {s'} o p v {b} e n = record { goes = λ fs. more (put-when b p fs) (goes-item o p v (ap₂ (λ (b : Bool) (s : Seen). ran (put b p fs) s) e n)) }
-
-  -- an item that names nothing, after others
-  pub ends : {s s' : Seen} {a f : List ℕ} (o p v : ℕ) → Does text all s a f s' → (test all s' o (nameFrom text p) ≡ false) × (next text s' o p v ≡ s') → Does text all s (a ++ item o p v) f s'
-  unfolding when
-  ends {f = f} o p v d q = told (append-nil f) (both d (single o p v (q .0) (q .1)))
-
-  pub many : {T : Type 0} {s : Seen} {P : T → Type 0} (fl F : T → List ℕ) → ((x : T) → P x → Does text all s (fl x) (F x) s) → (l : List T) → Every P l → Does text all s (flats fl l) (each F l) s
-  unfolding flats each
-  many fl F d [] h = none
-  many fl F d (x ∷ l) h = both (d x (h .0)) (many fl F d l (h .1))
-
+module _ (text : List ℕ) (all : Seen) where
   -- ---- types and expressions
 
   module _ (s : Seen) where
-    pub type-does : (t : Ty) → PlacedType text t → Does text all s (flatT t) (tyF all t) s
+    pub type-does : (t : Ty) → PlacedType text t → DoesAll text all s (flatT t) (tyF all t) s
     unfolding flatT tyF test next hit add reset when
     type-does (number n) h = single _ _ _ refl refl
     type-does (environment n) h = single _ _ _ (ap (among (all .taken)) (sym h)) refl
@@ -167,27 +139,27 @@ module _ {text : List ℕ} {all : Seen} where
     type-does (entry a b) h = ends _ _ _ (both (type-does a (h .0)) (type-does b (h .1))) (refl, refl)
     type-does (within p a) h = ends _ _ _ (type-does a h) (refl, refl)
 
-    type-item : (t : Ty) → PlacedType text t → Does text all s (flatT t) (each (itemF all (s .vals)) (Item.type t ∷ [])) s
+    type-item : (t : Ty) → PlacedType text t → DoesAll text all s (flatT t) (each (itemF all (s .vals)) (Item.type t ∷ [])) s
     unfolding each itemF kindF readF
     type-item t h = told (sym (append-nil (tyF all t ++ []) ∙ append-nil (tyF all t))) (type-does t h)
 
-    join : {a b : List ℕ} (x y : List Item) → Does text all s a (each (itemF all (s .vals)) x) s → Does text all s b (each (itemF all (s .vals)) y) s → Does text all s (a ++ b) (each (itemF all (s .vals)) (x ++ y)) s
+    join : {a b : List ℕ} (x y : List Item) → DoesAll text all s a (each (itemF all (s .vals)) x) s → DoesAll text all s b (each (itemF all (s .vals)) y) s → DoesAll text all s (a ++ b) (each (itemF all (s .vals)) (x ++ y)) s
     join x y d e = told (sym (each-append (itemF all (s .vals)) x y)) (both d e)
 
-    join3 : {a b c : List ℕ} (x y z : List Item) → Does text all s a (each (itemF all (s .vals)) x) s → Does text all s b (each (itemF all (s .vals)) y) s → Does text all s c (each (itemF all (s .vals)) z) s → Does text all s ((a ++ b) ++ c) (each (itemF all (s .vals)) (x ++ (y ++ z))) s
+    join3 : {a b c : List ℕ} (x y z : List Item) → DoesAll text all s a (each (itemF all (s .vals)) x) s → DoesAll text all s b (each (itemF all (s .vals)) y) s → DoesAll text all s c (each (itemF all (s .vals)) z) s → DoesAll text all s ((a ++ b) ++ c) (each (itemF all (s .vals)) (x ++ (y ++ z))) s
     join3 x y z d e f = told (ap (each (itemF all (s .vals))) (append-assoc x y z)) (join (x ++ y) z (join x y d e) f)
 
-    breadth-does : (w : Breadth) → PlacedBreadth text w → Does text all s (flatB w) (each (itemF all (s .vals)) (breadthItems w)) s
+    breadth-does : (w : Breadth) → PlacedBreadth text w → DoesAll text all s (flatB w) (each (itemF all (s .vals)) (breadthItems w)) s
     unfolding flatB breadthItems each test next hit add reset when
     breadth-does (bits n) h = single _ _ _ refl refl
     breadth-does (Breadth.typed p t) h = ends _ _ _ (type-item t h) (refl, refl)
 
-    amount-does : (v : Amount) → PlacedAmount text v → Does text all s (flatA v) (each (itemF all (s .vals)) (amountItems v)) s
+    amount-does : (v : Amount) → PlacedAmount text v → DoesAll text all s (flatA v) (each (itemF all (s .vals)) (amountItems v)) s
     unfolding flatA amountItems each itemF kindF readF test next hit add reset when
     amount-does (given n) h = single _ _ _ refl refl
     amount-does (value n) h = told (sym (append-nil _ ∙ append-nil _)) (single _ _ _ (ap (among (all .taken)) (sym h)) refl)
 
-    pub expr-does : (e : Expr) → PlacedExpr text e → Does text all s (flat e) (each (itemF all (s .vals)) (items e)) s
+    pub expr-does : (e : Expr) → PlacedExpr text e → DoesAll text all s (flat e) (each (itemF all (s .vals)) (items e)) s
     unfolding flat items each itemF kindF readF test next hit add reset when
     expr-does (plain n) h = single _ _ _ refl refl
     expr-does (sized w v) h = join (breadthItems w) (amountItems v) (breadth-does w (h .0)) (amount-does v (h .1))

@@ -11,7 +11,7 @@ use Rattle.language.specs.Names.{when, repeated, inputNames, outputNames}
 use Rattle.placed.specs.Members.{Member}
 use Rattle.placed.proofs.Members.{member-left, member-right, member-append}
 use Rattle.known.specs.Walk.{add}
-use Rattle.known.proofs.Parts.{pushed, inputsOnto, outputsOnto}
+use Rattle.known.proofs.Parts.{pushed, someOnto, inputsOnto, outputsOnto}
 
 pub record Same (xs ys : List ℕ) : Type 0 where
   pub to : (q : ℕ) → Member q xs → Member q ys
@@ -75,6 +75,11 @@ unfolding each
 split-each f a e s [] = first []
 split-each f a e s (x ∷ l) = both (s x) (split-each f a e s l)
 
+pub same-each : {T : Type 0} (f g : T → List ℕ) → ((x : T) → Same (f x) (g x)) → (l : List T) → Same (each f l) (each g l)
+unfolding each
+same-each f g h [] = equal []
+same-each f g h (x ∷ l) = beside (h x) (same-each f g h l)
+
 -- a place where one of two tests passes
 pub when-or : (b c : Bool) (p : ℕ) → Same (when (b || c) p) (when b p ++ when c p)
 unfolding when
@@ -135,23 +140,29 @@ module _ (s : List ℕ) where
   among-pushed [] l = refl
   among-pushed (n ∷ ns) l = among-pushed ns (n .spelled ∷ l) ∙ rw (among-cons (n .spelled) l, among-cons (n .spelled) (spelledOf ns)) (moved (same (n .spelled) s) (among (spelledOf ns) s) (among l s))
 
-  pub among-inputs : (ps : List Port) (l : List (List ℕ)) → among (inputsOnto ps l) s ≡ (among (inputNames ps) s || among l s)
-  unfolding inputsOnto inputNames each among add
-  among-inputs [] l = refl
-  among-inputs (p ∷ ps) l = go (p .input) (λ l. among-inputs ps l)
+  pub among-some : {T : Type 0} (keep : T → Bool) (called : T → List ℕ) (xs : List T) (l : List (List ℕ)) → among (someOnto keep called xs l) s ≡ (among (each (λ x. elim (keep x) [ true ↦ called x ∷ [] | false ↦ [] ]) xs) s || among l s)
+  unfolding someOnto each among add
+  among-some keep called [] l = refl
+  among-some keep called (x ∷ xs) l = go (keep x) (λ l. among-some keep called xs l)
     where
-      go : (b : Bool) → ((l : List (List ℕ)) → among (inputsOnto ps l) s ≡ (among (inputNames ps) s || among l s)) → among (inputsOnto ps (add b (p .called .spelled) l)) s ≡ (among (elim b as (λ (x : Bool). List (List ℕ)) [ true ↦ p .called .spelled ∷ [] | false ↦ [] ] ++ inputNames ps) s || among l s)
-      go true h = h (p .called .spelled ∷ l) ∙ rw (among-cons (p .called .spelled) l, among-cons (p .called .spelled) (inputNames ps)) (moved (same (p .called .spelled) s) (among (inputNames ps) s) (among l s))
+      those : List (List ℕ)
+      those = each (λ x. elim (keep x) [ true ↦ called x ∷ [] | false ↦ [] ]) xs
+
+      go : (b : Bool) → ((l : List (List ℕ)) → among (someOnto keep called xs l) s ≡ (among those s || among l s)) → among (someOnto keep called xs (add b (called x) l)) s ≡ (among (elim b as (λ (y : Bool). List (List ℕ)) [ true ↦ called x ∷ [] | false ↦ [] ] ++ those) s || among l s)
+      go true h = h (called x ∷ l) ∙ rw (among-cons (called x) l, among-cons (called x) those) (moved (same (called x) s) (among those s) (among l s))
       go false h = h l
 
+  pub among-inputs : (ps : List Port) (l : List (List ℕ)) → among (inputsOnto ps l) s ≡ (among (inputNames ps) s || among l s)
+  unfolding inputNames
+  among-inputs ps l = among-some (λ (p : Port). p .input) (λ (p : Port). p .called .spelled) ps l
+
   pub among-outputs : (ps : List Port) (l : List (List ℕ)) → among (outputsOnto ps l) s ≡ (among (outputNames ps) s || among l s)
-  unfolding outputsOnto outputNames each among add
-  among-outputs [] l = refl
-  among-outputs (p ∷ ps) l = go (p .input) (λ l. among-outputs ps l)
+  unfolding outputNames
+  among-outputs ps l = among-some (λ (p : Port). not (p .input)) (λ (p : Port). p .called .spelled) ps l ∙ ap (λ (r : List (List ℕ)). among r s || among l s) (each-as _ _ (λ p. go p (p .input)) ps)
     where
-      go : (b : Bool) → ((l : List (List ℕ)) → among (outputsOnto ps l) s ≡ (among (outputNames ps) s || among l s)) → among (outputsOnto ps (add (not b) (p .called .spelled) l)) s ≡ (among (elim b as (λ (x : Bool). List (List ℕ)) [ true ↦ [] | false ↦ p .called .spelled ∷ [] ] ++ outputNames ps) s || among l s)
-      go true h = h l
-      go false h = h (p .called .spelled ∷ l) ∙ rw (among-cons (p .called .spelled) l, among-cons (p .called .spelled) (outputNames ps)) (moved (same (p .called .spelled) s) (among (outputNames ps) s) (among l s))
+      go : (p : Port) (b : Bool) → _≡_ {A = List (List ℕ)} (elim (not b) [ true ↦ p .called .spelled ∷ [] | false ↦ [] ]) (elim b [ true ↦ [] | false ↦ p .called .spelled ∷ [] ])
+      go p true = refl
+      go p false = refl
 
 -- names that repeat others, in two parts
 pub repeated-append : (l : List (List ℕ)) (a b : List Name) → repeated l (a ++ b) ≡ repeated l a ++ repeated (pushed a l) b

@@ -1,5 +1,5 @@
 -- The names of a class on a part of the tape, item by item; the test of an item by its operation; the places so far. Assumes nothing.
-use mathlib.Core.Path.{_≡_, refl, sym, ap, ap₂, _∙_}
+use mathlib.Core.Path.{_≡_, refl, sym, ap, _∙_}
 use mathlib.Core.Bool.{Bool, true, false, not, _||_}
 use mathlib.Core.List.{List, [], _∷_, _++_}
 use mathlib.Core.Option.{Option, none, some}
@@ -13,11 +13,10 @@ use Rattle.language.specs.Text.{same, among, earliest}
 use Rattle.words.specs.Found.{placeTold, earlierOf}
 use Rattle.words.specs.declared.Place.{Place}
 use Rattle.words.specs.declared.Place.the-variants.{Nowhere}
-use Rattle.syntax.specs.Tape.{END, RULED}
 use Rattle.placed.proofs.Members.{member-append, member-left, member-right}
 use Rattle.placed.proofs.Earliest.{earliest-same}
 use Rattle.placed.specs.Placed.{nameFrom}
-use Rattle.known.specs.Walk.{opAt, placeAt, valueAt, hit, add, namesOn, between, test, faulty, put, after, pick, faultsAt}
+use Rattle.known.specs.Walk.{opAt, placeAt, valueAt, hit, add, namesOn, between, test, faulty, put, after, pick, marked}
 use Rattle.known.specs.declared.Class.{Class}
 use Rattle.known.specs.declared.Class.the-variants.{Signed, Declared, Input, Output, Taken, Present, Val}
 
@@ -50,44 +49,44 @@ module _ (text t : List ℕ) (c : Class) (from : ℕ) (s : List ℕ) where
 
 -- ---- the test of an item, by what was said of the name at its place
 
-module _ (text t : List ℕ) (many rule lets i p : ℕ) (e : p ≡ placeAt t i) where
-  pub at-signed : opAt t i ≡ 46 → {r a b : Bool} → r ≡ (a || not b) → a ≡ among (between text t Signed 0 i) (nameFrom text p) → b ≡ among (between text t Declared 0 many) (nameFrom text p) → r ≡ faulty text t many rule lets i
+module _ (text t : List ℕ) (many rule lets i : ℕ) {n : List ℕ} (e : n ≡ nameFrom text (placeAt t i)) where
+  pub at-signed : opAt t i ≡ 46 → {r a b : Bool} → r ≡ (a || not b) → a ≡ among (between text t Signed 0 i) n → b ≡ among (between text t Declared 0 many) n → r ≡ faulty text t many rule lets i
   unfolding test
   at-signed k q x y = rw (q, x, y, e, k)
 
-  pub at-declared : opAt t i ≡ 43 → {r a b : Bool} → r ≡ (not a || b) → a ≡ among (between text t Signed 0 many) (nameFrom text p) → b ≡ among (between text t Taken 0 i) (nameFrom text p) → r ≡ faulty text t many rule lets i
+  pub at-declared : opAt t i ≡ 43 → {r a b : Bool} → r ≡ (not a || b) → a ≡ among (between text t Signed 0 many) n → b ≡ among (between text t Taken 0 i) n → r ≡ faulty text t many rule lets i
   unfolding test
   at-declared k q x y = rw (q, x, y, e, k)
 
-  pub at-memory : opAt t i ≡ 44 → {r a : Bool} → r ≡ a → a ≡ among (between text t Taken 0 i) (nameFrom text p) → r ≡ faulty text t many rule lets i
+  pub at-memory : opAt t i ≡ 44 → {r a : Bool} → r ≡ a → a ≡ among (between text t Taken 0 i) n → r ≡ faulty text t many rule lets i
   unfolding test
   at-memory k q x = rw (q, x, e, k)
 
-  pub at-environment : opAt t i ≡ 2 → {r a : Bool} → r ≡ a → a ≡ among (between text t Taken 0 many) (nameFrom text p) → r ≡ faulty text t many rule lets i
+  pub at-environment : opAt t i ≡ 2 → {r a : Bool} → r ≡ a → a ≡ among (between text t Taken 0 many) n → r ≡ faulty text t many rule lets i
   unfolding test
   at-environment k q x = rw (q, x, e, k)
 
-  pub at-value : opAt t i ≡ 15 → {r a : Bool} → r ≡ a → a ≡ among (between text t Taken 0 many) (nameFrom text p) → r ≡ faulty text t many rule lets i
+  pub at-value : opAt t i ≡ 15 → {r a : Bool} → r ≡ a → a ≡ among (between text t Taken 0 many) n → r ≡ faulty text t many rule lets i
   unfolding test
   at-value k q x = rw (q, x, e, k)
 
-  pub at-port : opAt t i ≡ 3 → {r a : Bool} → r ≡ (not a) → a ≡ among (between text t Declared 0 many) (nameFrom text p) → r ≡ faulty text t many rule lets i
+  pub at-port : opAt t i ≡ 3 → {r a : Bool} → r ≡ (not a) → a ≡ among (between text t Declared 0 many) n → r ≡ faulty text t many rule lets i
   unfolding test
   at-port k q x = rw (q, x, e, k)
 
-  pub at-present : opAt t i ≡ 38 → {r a b : Bool} → r ≡ (not a || b) → a ≡ among (between text t Declared 0 many) (nameFrom text p) → b ≡ among (between text t Present rule i) (nameFrom text p) → r ≡ faulty text t many rule lets i
+  pub at-present : opAt t i ≡ 38 → {r a b : Bool} → r ≡ (not a || b) → a ≡ among (between text t Declared 0 many) n → b ≡ among (between text t Present rule i) n → r ≡ faulty text t many rule lets i
   unfolding test
   at-present k q x y = rw (q, x, y, e, k)
 
-  pub at-read : opAt t i ≡ 18 → {r a b : Bool} → r ≡ (not (a || b)) → a ≡ among (between text t Input 0 many) (nameFrom text p) → b ≡ among (between text t Val lets i) (nameFrom text p) → r ≡ faulty text t many rule lets i
+  pub at-read : opAt t i ≡ 18 → {r a b : Bool} → r ≡ (not (a || b)) → a ≡ among (between text t Input 0 many) n → b ≡ among (between text t Val lets i) n → r ≡ faulty text t many rule lets i
   unfolding test
   at-read k q x y = rw (q, x, y, e, k)
 
-  pub at-assign : opAt t i ≡ 33 → {r a : Bool} → r ≡ (not a) → a ≡ among (between text t Output 0 many) (nameFrom text p) → r ≡ faulty text t many rule lets i
+  pub at-assign : opAt t i ≡ 33 → {r a : Bool} → r ≡ (not a) → a ≡ among (between text t Output 0 many) n → r ≡ faulty text t many rule lets i
   unfolding test
   at-assign k q x = rw (q, x, e, k)
 
-  pub at-val : opAt t i ≡ 37 → {r a b : Bool} → r ≡ (a || b) → a ≡ among (between text t Val lets i) (nameFrom text p) → b ≡ among (between text t Taken 0 many) (nameFrom text p) → r ≡ faulty text t many rule lets i
+  pub at-val : opAt t i ≡ 37 → {r a b : Bool} → r ≡ (a || b) → a ≡ among (between text t Val lets i) n → b ≡ among (between text t Taken 0 many) n → r ≡ faulty text t many rule lets i
   unfolding test
   at-val k q x y = rw (q, x, y, e, k)
 
@@ -97,7 +96,7 @@ module _ (text t : List ℕ) (many rule lets i p : ℕ) (e : p ≡ placeAt t i) 
 
 -- ---- the places so far
 
-told-earlier : (p : ℕ) (ps : List ℕ) → placeTold (earliest (p ∷ ps)) ≡ earlierOf p (placeTold (earliest ps))
+pub told-earlier : (p : ℕ) (ps : List ℕ) → placeTold (earliest (p ∷ ps)) ≡ earlierOf p (placeTold (earliest ps))
 unfolding earliest placeTold earlierOf
 told-earlier p ps = go (earliest ps) refl
   where
@@ -108,18 +107,19 @@ told-earlier p ps = go (earliest ps) refl
 told-last : (p : ℕ) (ps : List ℕ) → placeTold (earliest (ps ++ (p ∷ []))) ≡ earlierOf p (placeTold (earliest ps))
 told-last p ps = ap placeTold (earliest-same {xs = ps ++ (p ∷ [])} {ys = p ∷ ps} (λ q m. ⊎-elim (λ n. member-right (p ∷ []) n) (λ n. member-left ps n) (member-append ps m)) (λ q m. ⊎-elim (λ n. member-right ps n) (λ n. member-left (p ∷ []) n) (member-append (p ∷ []) m))) ∙ told-earlier p ps
 
-module _ (text t : List ℕ) (many i rule lets : ℕ) (r : rule ≡ after RULED t i) (l : lets ≡ after END t i) {first : Place} (f : first ≡ placeTold (earliest (faultsAt text t many i))) where
-  pub fault-more : faulty text t many rule lets i ≡ true → earlierOf (placeAt t i) first ≡ placeTold (earliest (faultsAt text t many (i + 1)))
-  unfolding faultsAt put
-  fault-more e = rw (add-one i) (sym (ap (λ (b : Bool). placeTold (earliest (put b (placeAt t i) (faultsAt text t many i)))) (ap₂ (λ (x y : ℕ). faulty text t many x y i) (sym r) (sym l) ∙ e) ∙ told-last _ _ ∙ ap (earlierOf (placeAt t i)) (sym f)))
+-- one more item, of which the test says this
+module _ (f : ℕ → Bool) (t : List ℕ) (i : ℕ) {first : Place} (h : first ≡ placeTold (earliest (marked f t i))) where
+  pub fault-more : f i ≡ true → earlierOf (placeAt t i) first ≡ placeTold (earliest (marked f t (i + 1)))
+  unfolding marked put
+  fault-more e = rw (add-one i) (sym (ap (λ (b : Bool). placeTold (earliest (put b (placeAt t i) (marked f t i)))) e ∙ told-last _ _ ∙ ap (earlierOf (placeAt t i)) (sym h)))
 
-  pub fault-same : faulty text t many rule lets i ≡ false → first ≡ placeTold (earliest (faultsAt text t many (i + 1)))
-  unfolding faultsAt put
-  fault-same e = rw (add-one i) (sym (ap (λ (b : Bool). placeTold (earliest (put b (placeAt t i) (faultsAt text t many i)))) (ap₂ (λ (x y : ℕ). faulty text t many x y i) (sym r) (sym l) ∙ e) ∙ sym f))
+  pub fault-same : f i ≡ false → first ≡ placeTold (earliest (marked f t (i + 1)))
+  unfolding marked put
+  fault-same e = rw (add-one i) (sym (ap (λ (b : Bool). placeTold (earliest (put b (placeAt t i) (marked f t i)))) e ∙ sym h))
 
-pub no-fault : (text t : List ℕ) (many : ℕ) → Nowhere ≡ placeTold (earliest (faultsAt text t many 0))
-unfolding faultsAt earliest placeTold
-no-fault text t many = refl
+pub no-fault : (f : ℕ → Bool) (t : List ℕ) → Nowhere ≡ placeTold (earliest (marked f t 0))
+unfolding marked earliest placeTold
+no-fault f t = refl
 
 -- from where on items count after one more item
 pub after-more : (o : ℕ) (t : List ℕ) (i : ℕ) {x y : ℕ} → x ≡ after o t i → y ≡ pick (eqb (opAt t i) o) (i + 1) x → y ≡ after o t (i + 1)

@@ -13,9 +13,9 @@ use Rattle.placed.proofs.Earliest.{earliest-same}
 use Rattle.syntax.specs.Tape.{END, RULED}
 use Rattle.words.specs.Found.{placeTold}
 use Rattle.known.specs.Row.{Tells}
-use Rattle.known.specs.Walk.{Seen, seenAt, after, faultsAt}
-use Rattle.known.proofs.Tapes.{fold, goes-whole}
-use Rattle.known.proofs.Seens.{Ran, ran, meet, nothing, walked}
+use Rattle.known.specs.Walk.{Seen, seenAt, namesOn, after, faultsAt}
+use Rattle.known.proofs.Does.{Ran, ran, walked}
+use Rattle.known.proofs.Seens.{next, seen-more}
 use Rattle.known.proofs.Parts.{pushed, actorF}
 use Rattle.known.proofs.Actors.{final, actor-does}
 use Rattle.known.proofs.Same.{or-false, among-append, among-pushed, among-inputs, among-outputs}
@@ -43,10 +43,11 @@ agrees all a sg dc ip op tk =
 module _ (text t : List ℕ) (n many : ℕ) (k : n ≤ length t) (low : 3 * many ≤ n) (high : n < 3 * many + 3) {ws : List Word} {a : Actor} (h : Tells text t n ws a) where
   -- the walk by index, and what it does on the actor's items
   ends : ran (faultsAt text t many many) (seenAt text t (after RULED t many) (after END t many) many) ≡ ran (actorF (seenAt text t 0 0 many) a) (final a)
-  ends = sym (walked text t n many k low high) ∙ ap (fold (meet text (seenAt text t 0 0 many)) (ran [] nothing)) (h .holds) ∙ goes-whole (actor-does a (placed (h .lexed) (h .parses)) .goes [])
+  unfolding after namesOn
+  ends = walked _ (next text) t (λ i. seenAt text t (after RULED t i) (after END t i) i) (seen-more text t) k low high (h .holds) (actor-does text _ a (placed (h .lexed) (h .parses)))
 
-  agreed : Agree (seenAt text t 0 0 many) a
-  agreed = agrees _ a (ap (λ (r : Ran). r .seen .signed) ends) (ap (λ (r : Ran). r .seen .declared) ends) (ap (λ (r : Ran). r .seen .inputs) ends) (ap (λ (r : Ran). r .seen .outputs) ends) (ap (λ (r : Ran). r .seen .taken) ends)
+  pub agreed : Agree (seenAt text t 0 0 many) a
+  agreed = agrees _ a (ap (λ (r : Ran Seen). r .seen .signed) ends) (ap (λ (r : Ran Seen). r .seen .declared) ends) (ap (λ (r : Ran Seen). r .seen .inputs) ends) (ap (λ (r : Ran Seen). r .seen .outputs) ends) (ap (λ (r : Ran Seen). r .seen .taken) ends)
 
   pub earliest-fault : placeTold (earliest (faultsAt text t many many)) ≡ placeTold (earliest (nameFaults a))
-  earliest-fault = ap placeTold (ap (λ (r : Ran). earliest (r .faults)) ends ∙ earliest-same (actor-same _ a agreed .to) (actor-same _ a agreed .from))
+  earliest-fault = ap placeTold (ap (λ (r : Ran Seen). earliest (r .faults)) ends ∙ earliest-same (actor-same _ a agreed .to) (actor-same _ a agreed .from))

@@ -1,4 +1,4 @@
--- Row 6 as a walk over the items of a tape: the names of some class that were met, and the test of each item by them. Assumes nothing: these are definitions.
+-- What rows ask of a tape, item by item: the names of some class that were met, and the places that a test marks; then row 6 as such a walk. Assumes nothing: these are definitions.
 use mathlib.Core.Bool.{Bool, true, false, not, _&&_, _||_}
 use mathlib.Core.List.{List, [], _∷_, _++_}
 use Prim.Native.Nat.{ℕ, zero, suc, _+_, _*_, _-_}
@@ -8,7 +8,7 @@ use Rattle.language.specs.Text.{among}
 use Rattle.placed.specs.Placed.{nameFrom}
 use Rattle.syntax.specs.Tape.{ENVIRONMENT, PORT, VALUE, READ, ASSIGN, END, VAL, PRESENT, RULED, DECLARED, MEMORY, SIGNED}
 use Rattle.known.specs.declared.Class.{Class}
-use Rattle.known.specs.declared.Class.the-variants.{Signed, Declared, Input, Output, Taken, Present, Val}
+use Rattle.known.specs.declared.Class.the-variants.{Signed, Declared, Input, Output, Taken, Present, Val, Required, Assigned, Environment}
 
 -- an item by its index: its operation, place and value
 abbrev pub opAt : List ℕ → ℕ → ℕ
@@ -29,6 +29,9 @@ hit Output o v = eqb o DECLARED && ltb v 2
 hit Taken o v = eqb o DECLARED || eqb o MEMORY
 hit Present o v = eqb o PRESENT
 hit Val o v = eqb o VAL
+hit Required o v = eqb o PRESENT && eqb v 1
+hit Assigned o v = eqb o ASSIGN
+hit Environment o v = eqb o ENVIRONMENT || eqb o VALUE
 
 unfoldable pub add : Bool → List ℕ → List (List ℕ) → List (List ℕ)
 add true n ns = n ∷ ns
@@ -111,10 +114,14 @@ unfoldable pub put : Bool → ℕ → List ℕ → List ℕ
 put true p ps = ps ++ (p ∷ [])
 put false p ps = ps
 
+-- the places of the items that a test marks, among the first i
+unfoldable pub marked : (ℕ → Bool) → List ℕ → ℕ → List ℕ
+marked f t zero = []
+marked f t (suc i) = put (f i) (placeAt t i) (marked f t i)
+
 abbrev pub faulty : (text t : List ℕ) → (many rule lets i : ℕ) → Bool
 faulty text t many rule lets i = test (seenAt text t 0 0 many) (seenAt text t rule lets i) (opAt t i) (nameFrom text (placeAt t i))
 
 -- the places of the faulty items among the first i of so many
-unfoldable pub faultsAt : (text t : List ℕ) → (many i : ℕ) → List ℕ
-faultsAt text t many zero = []
-faultsAt text t many (suc i) = put (faulty text t many (after RULED t i) (after END t i) i) (placeAt t i) (faultsAt text t many i)
+abbrev pub faultsAt : (text t : List ℕ) → (many i : ℕ) → List ℕ
+faultsAt text t many i = marked (λ k. faulty text t many (after RULED t k) (after END t k) k) t i

@@ -17,7 +17,8 @@ fn unused(n: u32, i: Item) -> Item
     if n == 0 { i } else { Item::Bad }
 }
 
-fn unary_item(a: u32, w: u32) -> Item
+// An operator before its operand, by its number.
+pub fn unary_item(a: u32, w: u32) -> Item
     ensures { λ r. ⌜ r ≡ unaryItem a w ⌝ }
 {
     match a {
@@ -34,7 +35,8 @@ fn unary_item(a: u32, w: u32) -> Item
     }
 }
 
-fn binary_item(a: u32, m: u32, n: u32) -> Item
+// An operator between its operands, by its number.
+pub fn binary_item(a: u32, m: u32, n: u32) -> Item
     ensures { λ r. ⌜ r ≡ binaryItem a m n ⌝ }
 {
     match a {

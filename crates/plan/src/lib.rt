@@ -8,7 +8,9 @@ mod sections;
 mod steps;
 mod widths;
 
+pub use items::binary_item;
 pub use items::fetch_sound;
+pub use items::unary_item;
 use language::Binary;
 use language::Unary;
 pub use layout::absent_at;

@@ -1,12 +1,12 @@
--- The marks of names: parts of the text, the memories on the tape, and that a table whose names are remarked is a marked table. Assumes nothing.
+-- The marks of names: the memories on the tape, and that a table whose names are remarked is a marked table. Assumes nothing.
 use mathlib.Core.Path.{_≡_, refl, sym, ap, _∙_}
 use mathlib.Core.Bool.{Bool, true, false}
 use mathlib.Core.List.{List, [], _∷_}
-use Prim.Native.Nat.{ℕ, suc, _+_, _*_, _-_, _≤_, _<_}
+use Prim.Native.Nat.{ℕ, suc, _+_, _*_, _≤_, _<_}
 use native.Mathlib.Omega.{arith}
 use lib.Dec.{eqb}
-use lib.ListN.{length, getD, set, take, drop, length-set, length-take, length-drop, drop-of-length-le}
-use lib.Seq.{take-nil, take-all, drop-cons, getD-take, getD-set-same, getD-set-other}
+use lib.ListN.{length, getD, set, take, drop, length-set, length-take, length-drop}
+use lib.Seq.{drop-cons, getD-take, getD-set-same, getD-set-other}
 use borrow.Author.Tests.{eq-eqb, ne-eqb, eqb-true, eqb-false}
 use Rattle.language.specs.Text.{same, among}
 use Rattle.language.specs.Words.{Word, bytes, span, nameByte}
@@ -15,18 +15,6 @@ use Rattle.words.proofs.Spelled.{same-eq}
 use Rattle.syntax.specs.Tape.{MEMORY, one-if}
 use Rattle.syntax.specs.Marks.{count, placeAt, longAt, valueAt, spelledAt, isP, isType, isMemory, Marked}
 use Rattle.syntax.specs.Marking.{Held, spelledMark, nameMark, IsSpelled, Remarked, placesOn, runsAt}
-
--- ---- a part of a text
-
-module _ (text : List ℕ) (at long : ℕ) where
-  pub part-none : length text ≤ at → _≡_ {A = List ℕ} [] (take long (drop at text))
-  part-none h = sym (ap (take long) (drop-of-length-le text h) ∙ take-nil long)
-
-  pub part-all : length text ≤ at + long → take (length text - at) (drop at text) ≡ take long (drop at text)
-  part-all h = let e = length-drop at text in take-all (length text - at) (drop at text) (omega arith) ∙ sym (take-all long (drop at text) (omega arith))
-
-  pub part-some : take (at + long - at) (drop at text) ≡ take long (drop at text)
-  part-some = let e : at + long - at ≡ long = omega arith in ap (λ (n : ℕ). take n (drop at text)) e
 
 -- ---- the mark of a spelling
 

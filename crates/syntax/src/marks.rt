@@ -4,46 +4,18 @@ use crate::Table;
 use crate::Tape;
 use crate::look::wide;
 ghost use mathlib.Core.Path.{_≡_};
-ghost use lib.ListN.{length, take, drop};
+ghost use lib.ListN.{drop};
 ghost use Rattle.language.specs.Text.{same, among};
 ghost use Rattle.language.specs.Words.{span, nameByte};
 ghost use Rattle.syntax.specs.Marks.{count};
 ghost use Rattle.syntax.specs.Marking.{IsSpelled, nameMark, memoriesOn, Remarked, Tabled, Taped};
 
-// At most so many bytes from a place on.
-fn part(text: &[u8], at: usize, long: usize) -> &[u8]
-    ensures { λ r. ⌜ now r ≡ take long (drop at (now (text .entry))) ⌝ }
-{
-    if text.len() <= at {
-        return &text[0..0];
-    }
-    if text.len() - at <= long {
-        return &text[at..];
-    }
-    let end = at + long;
-    &text[at..end]
-}
-
-// How many name bytes stand from a place on.
-fn run(text: &[u8], at: usize) -> usize
-    ensures { λ r. ⌜ r ≡ length (span nameByte (drop at (now (text .entry)))) ⌝ }
-{
-    let mut i = at;
-    while i < text.len() {
-        if !names::is_name_byte(text[i]) {
-            return i - at;
-        }
-        i += 1;
-    }
-    i - at
-}
-
 // Whether a name stands at a place.
 fn stands(text: &[u8], at: usize, name: &[u8]) -> bool
     ensures { λ r. ⌜ r ≡ same (span nameByte (drop at (now (text .entry)))) (now (name .entry)) ⌝ }
 {
-    let n = run(text, at);
-    names::same_bytes(part(text, at, n), name)
+    let n = words::run(text, at);
+    names::same_bytes(words::part(text, at, n), name)
 }
 
 // Whether a name is among the memories on the first n numbers of the tape.
@@ -102,7 +74,7 @@ pub fn mark(text: &[u8], words: &mut Table, tape: &Tape, n: usize)
         if words[4 * i] == 2 {
             let at = wide(words[4 * i + 1]);
             let long = wide(words[4 * i + 2]);
-            let v = value(text, tape, n, part(text, at, long));
+            let v = value(text, tape, n, words::part(text, at, long));
             words[4 * i + 3] = v;
         }
         i += 1;

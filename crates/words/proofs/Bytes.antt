@@ -7,7 +7,7 @@ use native.Mathlib.Omega.{arith}
 use native.Mathlib.Numerals.{add-one, add-two}
 use lib.Dec.{leb, ltb, eqb}
 use lib.ListN.{length, take, drop, getD, drop-of-length-le, length-drop}
-use lib.Seq.{drop-cons, drop-drop}
+use lib.Seq.{drop-cons, drop-drop, take-nil, take-all}
 use borrow.Author.Tests.{le-leb, lt-leb, lt-ltb, le-ltb, eq-eqb, ne-eqb, leb-true, leb-false}
 use Rattle.language.specs.Words.{bytes, begins, span, blank, digit, letter, plainByte, nameByte, digitOf, digitIn, close, gap, after-gaps, baseOf, one-of, some-of}
 use Rattle.names.proofs.Laws.{under, above, is-neither}
@@ -109,6 +109,22 @@ span-taken t (b ∷ r) =
       | true ↦ ap (λ (l : List ℕ). b ∷ l) (span-taken t r)
       | false ↦ refl
     ]
+
+-- ---- a part of a text
+
+module _ (text : List ℕ) (at long : ℕ) where
+  pub part-none : length text ≤ at → _≡_ {A = List ℕ} [] (take long (drop at text))
+  part-none h = sym (ap (take long) (drop-of-length-le text h) ∙ take-nil long)
+
+  pub part-all : length text ≤ at + long → take (length text - at) (drop at text) ≡ take long (drop at text)
+  part-all h = let e = length-drop at text in take-all (length text - at) (drop at text) (omega arith) ∙ sym (take-all long (drop at text) (omega arith))
+
+  pub part-some : take (at + long - at) (drop at text) ≡ take long (drop at text)
+  part-some = let e : at + long - at ≡ long = omega arith in ap (λ (n : ℕ). take n (drop at text)) e
+
+-- a part as long as the run of name bytes at its place is the name there
+pub part-name : (text : List ℕ) (at : ℕ) {n : ℕ} {l : List ℕ} → l ≡ take n (drop at text) → n ≡ length (span nameByte (drop at text)) → l ≡ span nameByte (drop at text)
+part-name text at e h = e ∙ ap (λ (n : ℕ). take n (drop at text)) h ∙ span-taken nameByte (drop at text)
 
 -- ---- two bytes at a place
 

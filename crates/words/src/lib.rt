@@ -2,8 +2,11 @@
 // What comes in: a text and a lent table. What goes out: the number of words, each four numbers in
 // the table (kind, place, length, value), or the place of the first bad word.
 mod constants;
+mod texts;
 
 pub use constants::constant;
+pub use texts::part;
+pub use texts::run;
 ghost use mathlib.Core.Path.{_≡_};
 ghost use mathlib.Core.Bool.{true};
 ghost use mathlib.Core.List.{[], _∷_};
@@ -474,7 +477,7 @@ fn is_left_out(kind: u32) -> bool
 }
 
 // The earlier of a place and another, if there is another.
-fn earlier(at: u32, other: Place) -> Place
+pub fn earlier(at: u32, other: Place) -> Place
     ensures { λ r. ⌜ r ≡ earlierOf at other ⌝ }
 {
     match other {

@@ -2,6 +2,7 @@
 use borrow.Author.Needs.{needs}
 use native.Mathlib.Omega.{arith}
 use mathlib.Core.Path.{_≡_, refl, sym, ap, _∙_}
+use mathlib.Core.List.{List}
 use Prim.Native.Nat.{ℕ, _≤_}
 use Rattle.language.specs.Text.{same}
 use Rattle.placed.specs.Placed.{nameFrom}
@@ -10,10 +11,10 @@ use Rattle.known.proofs.said.Statement.{statement}
 use Rattle.known.proofs.said.Tie as tie
 
 abbrev Inv-loop : tie.InvT-loop
-Inv-loop text tape from to class place i₀ i = (from ≤ i) × (i ≤ to) × (Left text tape class from (nameFrom text place) i ≡ Left text tape class from (nameFrom text place) to)
+Inv-loop text tape from to class called i₀ i = (from ≤ i) × (i ≤ to) × (Left text tape class from called i ≡ Left text tape class from called to)
 
 abbrev μ-loop : tie.MeasureT-loop
-μ-loop text tape from to class place i₀ i = i
+μ-loop text tape from to class called i₀ i = i
 
 loop-holds : tie.Need-loop-holds Inv-loop μ-loop
 loop-holds c = (omega arith, omega arith, refl)
@@ -60,29 +61,32 @@ shared-slice-read-wide c = search needs
 wide-requires : tie.Need-wide-requires Inv-loop μ-loop
 wide-requires c κs = search needs
 
-same-name-requires : tie.Need-same-name-requires Inv-loop μ-loop
-same-name-requires c κs = search needs
+name-requires : tie.Need-name-requires Inv-loop μ-loop
+name-requires c κs = search needs
+
+same-bytes-requires : tie.Need-same-bytes-requires Inv-loop μ-loop
+same-bytes-requires c κs = search needs
 
 returns : tie.Need-returns Inv-loop μ-loop
-returns c = said-here (c .before .before .before .before .before .before .before .before .before .before .before .before .args .text .now) (c .before .before .before .before .before .before .before .before .before .before .before .before .args .tape .now) (c .before .before .before .before .before .before .before .before .before .before .before .before .args .class) (c .before .before .before .before .before .before .before .before .before .before .before .before .args .from) (nameFrom (c .before .before .before .before .before .before .before .before .before .before .before .before .args .text .now) (c .before .before .before .before .before .before .before .before .before .before .before .before .args .place)) (c .before .before .before .before .before .before .before .before .before .loop .i) (c .before .before .before .before .before .before .before .before .loop-test .taken) (sym (c .before .before .before .before .before .is .ensures) ∙ c .before .before .before .before .if1 .taken) (ap (λ (p : ℕ). same (nameFrom (c .before .before .before .before .before .before .before .before .before .before .before .before .args .text .now) p) (nameFrom (c .before .before .before .before .before .before .before .before .before .before .before .before .args .text .now) (c .before .before .before .before .before .before .before .before .before .before .before .before .args .place))) (sym (c .before .before .wide .ensures)) ∙ sym (c .before .same-name .ensures) ∙ c .if2 .taken) ∙ c .before .before .before .before .before .before .before .before .before .loop .inv .2
+returns c = said-here (c .before .before .before .before .before .before .before .before .before .before .before .before .before .before .args .text .now) (c .before .before .before .before .before .before .before .before .before .before .before .before .before .before .args .tape .now) (c .before .before .before .before .before .before .before .before .before .before .before .before .before .before .args .class) (c .before .before .before .before .before .before .before .before .before .before .before .before .before .before .args .from) (c .before .before .before .before .before .before .before .before .before .before .before .before .before .before .args .called .now) (c .before .before .before .before .before .before .before .before .before .before .loop .i) (c .before .before .before .before .before .before .before .before .before .loop-test .taken) (sym (c .before .before .before .before .before .before .is .ensures) ∙ c .before .before .before .before .before .if1 .taken) (ap (λ (l : List ℕ). same l (c .before .before .before .before .before .before .before .before .before .before .before .before .before .before .args .called .now)) (sym (c .before .before .name .ensures ∙ ap (nameFrom (c .before .before .before .before .before .before .before .before .before .before .before .before .before .before .args .text .now)) (c .before .before .before .wide .ensures))) ∙ sym (c .before .same-bytes .ensures) ∙ c .if2 .taken) ∙ c .before .before .before .before .before .before .before .before .before .before .loop .inv .2
 
 loop-less : tie.Need-loop-less Inv-loop μ-loop
 loop-less c = search needs
 
 loop-again : tie.Need-loop-again Inv-loop μ-loop
-loop-again c = (omega arith, omega arith, said-next (c .before .before .before .before .before .before .before .before .before .before .before .before .args .text .now) (c .before .before .before .before .before .before .before .before .before .before .before .before .args .tape .now) (c .before .before .before .before .before .before .before .before .before .before .before .before .args .class) (c .before .before .before .before .before .before .before .before .before .before .before .before .args .from) (nameFrom (c .before .before .before .before .before .before .before .before .before .before .before .before .args .text .now) (c .before .before .before .before .before .before .before .before .before .before .before .before .args .place)) (c .before .before .before .before .before .before .before .before .before .loop .i) (c .before .before .before .before .before .before .before .before .loop-test .taken) (sym (c .before .before .before .before .before .is .ensures) ∙ c .before .before .before .before .if1 .taken) (ap (λ (p : ℕ). same (nameFrom (c .before .before .before .before .before .before .before .before .before .before .before .before .args .text .now) p) (nameFrom (c .before .before .before .before .before .before .before .before .before .before .before .before .args .text .now) (c .before .before .before .before .before .before .before .before .before .before .before .before .args .place))) (sym (c .before .before .wide .ensures)) ∙ sym (c .before .same-name .ensures) ∙ c .if2 .left) ∙ c .before .before .before .before .before .before .before .before .before .loop .inv .2)
+loop-again c = (omega arith, omega arith, said-next (c .before .before .before .before .before .before .before .before .before .before .before .before .before .before .args .text .now) (c .before .before .before .before .before .before .before .before .before .before .before .before .before .before .args .tape .now) (c .before .before .before .before .before .before .before .before .before .before .before .before .before .before .args .class) (c .before .before .before .before .before .before .before .before .before .before .before .before .before .before .args .from) (c .before .before .before .before .before .before .before .before .before .before .before .before .before .before .args .called .now) (c .before .before .before .before .before .before .before .before .before .before .loop .i) (c .before .before .before .before .before .before .before .before .before .loop-test .taken) (sym (c .before .before .before .before .before .before .is .ensures) ∙ c .before .before .before .before .before .if1 .taken) (ap (λ (l : List ℕ). same l (c .before .before .before .before .before .before .before .before .before .before .before .before .before .before .args .called .now)) (sym (c .before .before .name .ensures ∙ ap (nameFrom (c .before .before .before .before .before .before .before .before .before .before .before .before .before .before .args .text .now)) (c .before .before .before .wide .ensures))) ∙ sym (c .before .same-bytes .ensures) ∙ c .if2 .left) ∙ c .before .before .before .before .before .before .before .before .before .before .loop .inv .2)
 
 loop-less-2 : tie.Need-loop-less-2 Inv-loop μ-loop
 loop-less-2 c = search needs
 
 loop-again-2 : tie.Need-loop-again-2 Inv-loop μ-loop
-loop-again-2 c = (omega arith, omega arith, said-other (c .before .before .before .before .before .before .before .before .args .text .now) (c .before .before .before .before .before .before .before .before .args .tape .now) (c .before .before .before .before .before .before .before .before .args .class) (c .before .before .before .before .before .before .before .before .args .from) (nameFrom (c .before .before .before .before .before .before .before .before .args .text .now) (c .before .before .before .before .before .before .before .before .args .place)) (c .before .before .before .before .before .loop .i) (c .before .before .before .before .loop-test .taken) (sym (c .before .is .ensures) ∙ c .if1 .left) ∙ c .before .before .before .before .before .loop .inv .2)
+loop-again-2 c = (omega arith, omega arith, said-other (c .before .before .before .before .before .before .before .before .before .args .text .now) (c .before .before .before .before .before .before .before .before .before .args .tape .now) (c .before .before .before .before .before .before .before .before .before .args .class) (c .before .before .before .before .before .before .before .before .before .args .from) (c .before .before .before .before .before .before .before .before .before .args .called .now) (c .before .before .before .before .before .loop .i) (c .before .before .before .before .loop-test .taken) (sym (c .before .is .ensures) ∙ c .if1 .left) ∙ c .before .before .before .before .before .loop .inv .2)
 
 returns-2 : tie.Need-returns-2 Inv-loop μ-loop
-returns-2 c = said-none (c .before .before .before .before .args .text .now) (c .before .before .before .before .args .tape .now) (c .before .before .before .before .args .class) (c .before .before .before .before .args .from) (nameFrom (c .before .before .before .before .args .text .now) (c .before .before .before .before .args .place)) (c .before .loop .i) (omega arith) ∙ c .before .loop .inv .2
+returns-2 c = said-none (c .before .before .before .before .before .args .text .now) (c .before .before .before .before .before .args .tape .now) (c .before .before .before .before .before .args .class) (c .before .before .before .before .before .args .from) (c .before .before .before .before .before .args .called .now) (c .before .loop .i) (omega arith) ∙ c .before .loop .inv .2
 
 pub said-spec : {M : Type 1} → statement M
 said-spec =
     tie.close (tie.spec Inv-loop μ-loop loop-holds sub-i mul-is mul-is-2 shared-slice-read-is mul-is-3 add-is mul-is-4 shared-slice-read-is-2
-    is-requires mul-wide add-wide mul-wide-2 shared-slice-read-wide wide-requires same-name-requires returns loop-less loop-again loop-less-2
-    loop-again-2 returns-2)
+    is-requires mul-wide add-wide mul-wide-2 shared-slice-read-wide wide-requires name-requires same-bytes-requires returns loop-less loop-again
+    loop-less-2 loop-again-2 returns-2)

@@ -1,13 +1,13 @@
 -- `known::walk` meets its contract: the place is the earliest of the items passed. Assumes nothing.
 use borrow.Author.Needs.{needs}
 use native.Mathlib.Omega.{arith}
-use mathlib.Core.Path.{_≡_, sym, ap, _∙_}
+use mathlib.Core.Path.{_≡_, sym, ap, ap₂, _∙_}
 use mathlib.Core.Logic.{⊎-elim}
 use Prim.Native.Nat.{ℕ, _≤_, _-_}
 use Rattle.language.specs.Text.{earliest}
 use Rattle.words.specs.Found.{placeTold}
 use Rattle.syntax.specs.Tape.{END, RULED}
-use Rattle.known.specs.Walk.{faultsAt, after}
+use Rattle.known.specs.Walk.{faulty, faultsAt, after}
 use Rattle.known.proofs.Walks.{fault-more, fault-same, no-fault, after-more, after-start, pick-within}
 use Rattle.known.proofs.walk.Statement.{statement}
 use Rattle.known.proofs.walk.Tie as tie
@@ -19,7 +19,7 @@ abbrev μ-loop : tie.MeasureT-loop
 μ-loop text tape many first₀ rule₀ lets₀ i₀ first rule lets i = many - i
 
 loop-holds : tie.Need-loop-holds Inv-loop μ-loop
-loop-holds c = (omega arith, omega arith, omega arith, after-start _ _, after-start _ _, no-fault _ _ _)
+loop-holds c = (omega arith, omega arith, omega arith, after-start _ _, after-start _ _, no-fault _ (c .before .before .args .tape .now))
 
 at-fault-requires : tie.Need-at-fault-requires Inv-loop μ-loop
 at-fault-requires c κs = search needs
@@ -61,7 +61,7 @@ loop-less : tie.Need-loop-less Inv-loop μ-loop
 loop-less c = search needs
 
 loop-again : tie.Need-loop-again Inv-loop μ-loop
-loop-again c = (omega arith, pick-within _ _ _ (c .before .before .before .before .before .before .loop .inv .1) (c .before .from .ensures), pick-within _ _ _ (c .before .before .before .before .before .before .loop .inv .2) (c .from2 .ensures), after-more _ _ _ (c .before .before .before .before .before .before .loop .inv .3) (c .before .from .ensures), after-more _ _ _ (c .before .before .before .before .before .before .loop .inv .4) (c .from2 .ensures), ⊎-elim (λ w. w .3 ∙ w .2 .ensures ∙ fault-more (c .before .before .before .before .before .before .before .before .before .args .text .now) (c .before .before .before .before .before .before .before .before .before .args .tape .now) (c .before .before .before .before .before .before .before .before .before .args .many) (c .before .before .before .before .before .before .loop .i) (c .before .before .before .before .before .before .loop .rule) (c .before .before .before .before .before .before .loop .lets) (c .before .before .before .before .before .before .loop .inv .3) (c .before .before .before .before .before .before .loop .inv .4) (c .before .before .before .before .before .before .loop .inv .5) (sym (c .before .before .before .before .at-fault .ensures) ∙ w .0 .taken)) (λ w. w .1 ∙ fault-same (c .before .before .before .before .before .before .before .before .before .args .text .now) (c .before .before .before .before .before .before .before .before .before .args .tape .now) (c .before .before .before .before .before .before .before .before .before .args .many) (c .before .before .before .before .before .before .loop .i) (c .before .before .before .before .before .before .loop .rule) (c .before .before .before .before .before .before .loop .lets) (c .before .before .before .before .before .before .loop .inv .3) (c .before .before .before .before .before .before .loop .inv .4) (c .before .before .before .before .before .before .loop .inv .5) (sym (c .before .before .before .before .at-fault .ensures) ∙ w .0 .left)) (c .before .before .before .if1 .came))
+loop-again c = (omega arith, pick-within _ _ _ (c .before .before .before .before .before .before .loop .inv .1) (c .before .from .ensures), pick-within _ _ _ (c .before .before .before .before .before .before .loop .inv .2) (c .from2 .ensures), after-more _ _ _ (c .before .before .before .before .before .before .loop .inv .3) (c .before .from .ensures), after-more _ _ _ (c .before .before .before .before .before .before .loop .inv .4) (c .from2 .ensures), ⊎-elim (λ w. w .3 ∙ w .2 .ensures ∙ fault-more (λ (k : ℕ). faulty (c .before .before .before .before .before .before .before .before .before .args .text .now) (c .before .before .before .before .before .before .before .before .before .args .tape .now) (c .before .before .before .before .before .before .before .before .before .args .many) (after RULED (c .before .before .before .before .before .before .before .before .before .args .tape .now) k) (after END (c .before .before .before .before .before .before .before .before .before .args .tape .now) k) k) (c .before .before .before .before .before .before .before .before .before .args .tape .now) (c .before .before .before .before .before .before .loop .i) (c .before .before .before .before .before .before .loop .inv .5) (ap₂ (λ (x y : ℕ). faulty (c .before .before .before .before .before .before .before .before .before .args .text .now) (c .before .before .before .before .before .before .before .before .before .args .tape .now) (c .before .before .before .before .before .before .before .before .before .args .many) x y (c .before .before .before .before .before .before .loop .i)) (sym (c .before .before .before .before .before .before .loop .inv .3)) (sym (c .before .before .before .before .before .before .loop .inv .4)) ∙ sym (c .before .before .before .before .at-fault .ensures) ∙ w .0 .taken)) (λ w. w .1 ∙ fault-same (λ (k : ℕ). faulty (c .before .before .before .before .before .before .before .before .before .args .text .now) (c .before .before .before .before .before .before .before .before .before .args .tape .now) (c .before .before .before .before .before .before .before .before .before .args .many) (after RULED (c .before .before .before .before .before .before .before .before .before .args .tape .now) k) (after END (c .before .before .before .before .before .before .before .before .before .args .tape .now) k) k) (c .before .before .before .before .before .before .before .before .before .args .tape .now) (c .before .before .before .before .before .before .loop .i) (c .before .before .before .before .before .before .loop .inv .5) (ap₂ (λ (x y : ℕ). faulty (c .before .before .before .before .before .before .before .before .before .args .text .now) (c .before .before .before .before .before .before .before .before .before .args .tape .now) (c .before .before .before .before .before .before .before .before .before .args .many) x y (c .before .before .before .before .before .before .loop .i)) (sym (c .before .before .before .before .before .before .loop .inv .3)) (sym (c .before .before .before .before .before .before .loop .inv .4)) ∙ sym (c .before .before .before .before .at-fault .ensures) ∙ w .0 .left)) (c .before .before .before .if1 .came))
 
 returns : tie.Need-returns Inv-loop μ-loop
 returns c = let e : c .before .loop .i ≡ c .before .before .before .before .args .many = omega arith in c .before .loop .inv .5 ∙ ap (λ (i : ℕ). placeTold (earliest (faultsAt (c .before .before .before .before .args .text .now) (c .before .before .before .before .args .tape .now) (c .before .before .before .before .args .many) i))) e

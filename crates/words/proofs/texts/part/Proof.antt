@@ -1,9 +1,9 @@
--- `known::part` meets its contract. Assumes nothing.
+-- `words::texts::part` meets its contract. Assumes nothing.
 use native.Mathlib.Omega.{arith}
-use Rattle.known.proofs.Texts.{part-none, part-all, part-some}
+use Rattle.words.proofs.Bytes.{part-none, part-all, part-some}
 use borrow.Author.Needs.{needs}
-use Rattle.known.proofs.part.Statement.{statement}
-use Rattle.known.proofs.part.Tie as tie
+use Rattle.words.proofs.texts.part.Statement.{statement}
+use Rattle.words.proofs.texts.part.Tie as tie
 
 sub-result : tie.Need-sub-result
 sub-result c = search needs

@@ -1,0 +1,26 @@
+-- The lines of the bindings, by their text and the table that `bindings` fills. Assumes nothing: these are definitions.
+use mathlib.Core.Path.{_≡_}
+use mathlib.Core.List.{List, [], _∷_}
+use Prim.Native.Nat.{ℕ, zero, suc, _+_, _*_}
+use lib.ListN.{length, getD, take, drop}
+use Rattle.language.specs.Bindings.{Binding, Bindings, bindingsOf, bound}
+use Rattle.bindings.specs.Table.{tableOf, lineIn}
+
+-- the name of line i; the names of n lines from one on; the lines
+abbrev pub nameOn : (btext table : List ℕ) → ℕ → List ℕ
+nameOn btext table i = take (getD table (3 * i + 1) 0) (drop (getD table (3 * i) 0) btext)
+
+unfoldable pub namesOn : (btext table : List ℕ) → (from n : ℕ) → List (List ℕ)
+namesOn btext table from zero = []
+namesOn btext table from (suc n) = nameOn btext table from ∷ namesOn btext table (suc from) n
+
+unfoldable pub linesOn : (btext table : List ℕ) → (from n : ℕ) → List Binding
+linesOn btext table from zero = []
+linesOn btext table from (suc n) = lineIn btext table from ∷ linesOn btext table (suc from) n
+
+-- a bindings text that was read, and the table that holds its k lines of widths and m lines of values
+pub record Binds (btext table : List ℕ) (k m : ℕ) (b : Bindings) : Type 0 where
+  pub reads : bindingsOf btext ≡ bound b
+  pub widths : k ≡ length (b .widths)
+  pub values : m ≡ length (b .values)
+  pub holds : take (3 * (k + m)) table ≡ tableOf b
