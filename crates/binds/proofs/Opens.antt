@@ -20,7 +20,7 @@ use Rattle.known.specs.Row.{Tells}
 use Rattle.known.specs.Walk.{opAt, placeAt, valueAt, marked}
 use Rattle.known.proofs.Does.{Ran, Does, told, none, both, single, ends, many, walked}
 use Rattle.known.proofs.Asks.{never, asked, told-of, itemA, Asks, expr-asks, decl-asks}
-use Rattle.known.proofs.Parts.{each-append}
+use Rattle.placed.proofs.Every.{each-append}
 use Rattle.known.proofs.Listed.{inStatement, valuesOf, bodiesOf, listed-each, listed-values, listed-scoped, listed-groups, listed-actor}
 use Rattle.known.proofs.Same.{Same, is, equal, then, beside, swap, Split, both as beside-both, into, split-each, same-each}
 use Rattle.binds.specs.Walk.{noType, ask}

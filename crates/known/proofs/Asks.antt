@@ -12,7 +12,7 @@ use Rattle.language.specs.Tree.{Expr, plain, sized, copies, read, cell, bit, ra
 use Rattle.placed.specs.Placed.{nameFrom, PlacedType, PlacedBreadth, PlacedAmount, PlacedExpr, PlacedDeclared}
 use Rattle.syntax.specs.Tape.{item, flatT, flatB, flatA, flat, flatD, ENVIRONMENT, VALUE, READ, ASSIGN}
 use Rattle.known.proofs.Does.{Does, told, none, both, single, ends}
-use Rattle.known.proofs.Parts.{each-append}
+use Rattle.placed.proofs.Every.{each-append}
 
 -- nothing is asked of a name
 abbrev pub never : List ℕ → Bool

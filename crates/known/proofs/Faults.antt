@@ -8,8 +8,9 @@ use Rattle.language.specs.Text.{Name, among}
 use Rattle.language.specs.Parts.{each, Item, reads, items, declaredItems, assigned, wholes, statements, valItems, actorItems, types, readNames, typeNames, itemNames, environmentNames, typePorts}
 use Rattle.language.specs.Names.{when, clashing, missing, repeated, inputNames, outputNames, entryNames, ports, memories, declarationFaults, typeNameFaults, readFaults, assignmentFaults, valFaults, statementFaults, ruleFaults, nameFaults}
 use Rattle.language.specs.Tree.{Ty, number, environment, port, plus, minus, log, ceil, floor, most, entry, within, Expr, Port, Memory, Entry, Val, Assignment, assign, write, Statement, alone, scoped, Rule, Group, Actor, spelledOf, portNames, memoryNames}
+use Rattle.placed.proofs.Every.{each-append}
 use Rattle.known.specs.Walk.{Seen}
-use Rattle.known.proofs.Parts.{pushed, valNames, tyF, kindF, readF, itemF, exprF, declF, valsF, assignF, statementF, entriesF, ruleF, groupF, signF, portsF, memoriesF, actorF, each-append}
+use Rattle.known.proofs.Parts.{pushed, valNames, tyF, kindF, readF, itemF, exprF, declF, valsF, assignF, statementF, entriesF, ruleF, groupF, signF, portsF, memoriesF, actorF}
 use Rattle.known.proofs.Listed.{inStatement, valuesOf, listed-scoped, listed-groups, listed-actor}
 use Rattle.known.proofs.Same.{Same, is, equal, then, beside, swap, mix, Split, both, first, second, of, into, split-each, when-or, split-or, or-false, among-append, among-pushed, repeated-append}
 

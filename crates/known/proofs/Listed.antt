@@ -4,7 +4,7 @@ use mathlib.Core.List.{List, [], _∷_, _++_, append-assoc, append-nil}
 use Prim.Native.Nat.{ℕ}
 use Rattle.language.specs.Parts.{each, Item, items, declaredItems, assigned, wholes, statements, valItems, actorItems}
 use Rattle.language.specs.Tree.{Expr, Port, Memory, Val, Assignment, Statement, Rule, Group, Actor}
-use Rattle.known.proofs.Parts.{each-append}
+use Rattle.placed.proofs.Every.{each-append}
 use Rattle.known.proofs.Same.{each-as, each-each}
 
 abbrev pub inStatement : Statement → List Item

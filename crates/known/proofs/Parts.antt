@@ -10,6 +10,7 @@ use Rattle.language.specs.Tree.{Ty, number, environment, port, plus, minus, log
 use Rattle.language.specs.Tree.{Expr, plain, sized, copies, read, cell, bit, range, inside, joined, beside, unary, binary, choice, either, select, arm, default}
 use Rattle.language.specs.Tree.{Declared, Port, Memory, Entry, Val, Assignment, assign, write, Statement, alone, scoped, Rule, Group, Actor, portNames}
 use Rattle.placed.specs.Placed.{nameFrom, PlacedType, PlacedBreadth, PlacedAmount, PlacedExpr}
+use Rattle.placed.proofs.Every.{each-append}
 use Rattle.syntax.specs.Tape.{flatT, flatB, flatA, flat}
 use Rattle.known.specs.Walk.{hit, add, Seen, test}
 use Rattle.known.proofs.Does.{Does, told, both, single, ends}
@@ -115,11 +116,6 @@ module _ (all : Seen) where
 
 abbrev pub DoesAll : (text : List ℕ) → (all s : Seen) → (a f : List ℕ) → Seen → Type 0
 DoesAll text all s a f s' = Does (λ s o p v. test all s o (nameFrom text p)) (next text) s a f s'
-
-pub each-append : {A B : Type 0} (f : A → List B) (a b : List A) → each f (a ++ b) ≡ each f a ++ each f b
-unfolding each
-each-append f [] b = refl
-each-append f (x ∷ a) b = ap (λ (r : List _). f x ++ r) (each-append f a b) ∙ sym (append-assoc (f x) (each f a) (each f b))
 
 module _ (text : List ℕ) (all : Seen) where
   -- ---- types and expressions

@@ -1,3 +1,6 @@
 pub mod Placed
 pub mod Members
 pub mod Earliest
+pub mod Every
+pub mod Lists
+pub mod Worded

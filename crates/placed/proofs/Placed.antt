@@ -1,7 +1,7 @@
 -- THE THEOREM: the text and the places of a tree that is read from it give back every name and every sized constant. Assumes nothing.
 -- The words say so of themselves, and each production's names and constants are its words'.
 use mathlib.Core.Path.{_≡_}
-use mathlib.Core.List.{List, [], _∷_, _++_}
+use mathlib.Core.List.{List, _∷_, _++_}
 use Prim.Native.Nat.{ℕ}
 use Rattle.language.specs.Text.{Name}
 use Rattle.language.specs.Words.{Word, words, wordsOf}
@@ -10,10 +10,12 @@ use Rattle.language.specs.Parser.{parse}
 use Rattle.language.specs.Tree.{Ty, Amount, Expr, Declared, Port, Memory, Entry, Val, Assignment, Statement, Rule, Group, Actor, spelledOf, memoryNames}
 use Rattle.language.specs.Grammar.{Types, TypeSort, t-plus, t-minus, t-term, t-number, t-environment, t-port, t-log, t-ceil, t-floor, t-max, t-within, t-entry, t-one, Amounts, a-given, a-value}
 use Rattle.language.specs.Grammar.{Sort, Derives, d-if, d-expr, d-cond, d-bins, d-bin, d-up, d-unary, d-plain, d-bits, d-typed, d-copies, d-joined, d-part, d-beside, d-cell, d-read, d-inside, d-base, d-bit, d-range, d-case, d-arm, d-default}
-use Rattle.language.specs.Grammar.{Many, m-none, m-more, Some, s-some, Commas, c-one, c-more, Declares, y-untyped, y-typed, Vals, v-val, Assigns, i-assign, i-write, Statements, s-alone, s-let, Entries, e-present, e-absent, Rules, r-rule, Groups, g-or, Constraints, k-or, k-and, Ports, o-input, o-output, Memories, h-reg, h-ff, Names, n-name, Actors, actor}
+use Rattle.language.specs.Grammar.{Declares, y-untyped, y-typed, Vals, v-val, Assigns, i-assign, i-write, Statements, s-alone, s-let, Entries, e-present, e-absent, Rules, r-rule, Groups, g-or, Constraints, k-or, k-and, Ports, o-input, o-output, Memories, h-reg, h-ff, Names, n-name, Actors, actor}
 use Rattle.language.proofs.Main.{grammar-correct}
 use Rattle.words.proofs.Runs.{IsRun, AllRuns, noMore, more, all-runs}
 use Rattle.placed.specs.Placed.{Spelled, Every, PlacedType, PlacedAmount, PlacedExpr, PlacedDeclared, PlacedVal, PlacedAssignment, PlacedStatement, PlacedEntry, PlacedRule, PlacedGroup, PlacedPort, PlacedMemory, PlacedActor}
+use Rattle.placed.proofs.Every.{every-append}
+use Rattle.placed.proofs.Lists.{many-each, some-each, commas-each}
 
 module _ (text : List ℕ) where
   abbrev Good : List Word → Type 0
@@ -25,12 +27,13 @@ module _ (text : List ℕ) where
 
   -- the words of the first part and of the rest
   first-words : (a b : List Word) → Good (a ++ b) → Good a
-  first-words [] b n = tt
-  first-words (w ∷ a) b n = (n .0, first-words a b (n .1))
+  first-words a b n = every-append (IsRun text) a b n .0
 
   later-words : (a b : List Word) → Good (a ++ b) → Good b
-  later-words [] b n = n
-  later-words (w ∷ a) b n = later-words a b (n .1)
+  later-words a b n = every-append (IsRun text) a b n .1
+
+  rest-words : (w : Word) (a : List Word) → Good (w ∷ a) → Good a
+  rest-words w a n = n .1
 
   -- ## Types and expressions
 
@@ -84,20 +87,6 @@ module _ (text : List ℕ) where
     derived (d-arm {a = a} p q x y) n = (derived x (first-words a _ (n .1 .1)), derived y (later-words a _ (n .1 .1) .1))
     derived (d-default {a = a} p q r x) n = derived x (first-words a _ (n .1 .1))
 
-  -- ## Lists
-
-  module _ {T : Type 0} (D : List Word → T → Type 0) (P : T → Type 0) (one : (a : List Word) (x : T) → D a x → Good a → P x) where
-    many-placed : {a : List Word} {l : List T} → Many D a l → Good a → Every P l
-    many-placed m-none n = tt
-    many-placed (m-more {a = a} {b = b} {x = x} d r) n = (one a x d (first-words a b n), many-placed r (later-words a b n))
-
-    some-placed : {a : List Word} {l : List T} → Some D a l → Good a → Every P l
-    some-placed (s-some {a = a} {b = b} {x = x} d r) n = (one a x d (first-words a b n), many-placed r (later-words a b n))
-
-    commas-placed : {a : List Word} {l : List T} → Commas D a l → Good a → Every P l
-    commas-placed (c-one {a = a} {x = x} d) n = (one a x d n, tt)
-    commas-placed (c-more {a = a} {x = x} p d r) n = (one a x d (first-words a _ n), commas-placed r (later-words a _ n .1))
-
   -- ## Statements, rules and groups
 
   declares-placed : {a : List Word} {t : Declared} → Declares a t → Good a → PlacedDeclared text t
@@ -123,23 +112,23 @@ module _ (text : List ℕ) where
     statements-placed : (a : List Word) (x : Statement) → Statements ms a x → Good a → PlacedStatement text x
     statements-placed w v (s-alone {a = a} {x = x} d) n = assigns-placed a x d n
     statements-placed w v (s-let {a = a} {b = b} p q r d f) n =
-        (some-placed (Vals ms) (PlacedVal text) vals-placed d (first-words a _ (n .1)), some-placed (Assigns ms) (PlacedAssignment text) assigns-placed f (first-words b _ (later-words a _ (n .1) .1)))
+        (some-each Good first-words later-words rest-words (Vals ms) (PlacedVal text) vals-placed d (first-words a _ (n .1)), some-each Good first-words later-words rest-words (Assigns ms) (PlacedAssignment text) assigns-placed f (first-words b _ (later-words a _ (n .1) .1)))
 
     rules-placed : (a : List Word) (x : Rule) → Rules ms a x → Good a → PlacedRule text x
     unfolding IsRun
     rules-placed w v (r-rule {a = a} {b = b} p q r s d f) n =
         record {
           called = n .0;
-          list = commas-placed Entries (PlacedEntry text) entries-placed d (first-words a _ (n .1 .1));
-          body = many-placed (Statements ms) (PlacedStatement text) statements-placed f (first-words b _ (later-words a _ (n .1 .1) .1 .1));
+          list = commas-each Good first-words later-words rest-words Entries (PlacedEntry text) entries-placed d (first-words a _ (n .1 .1));
+          body = many-each Good first-words later-words rest-words (Statements ms) (PlacedStatement text) statements-placed f (first-words b _ (later-words a _ (n .1 .1) .1 .1));
         }
 
     groups-placed : (a : List Word) (g : Group) → Groups ms a g → Good a → PlacedGroup text g
-    groups-placed w v (g-or {a = a} p q r d) n = some-placed (Rules ms) (PlacedRule text) rules-placed d (first-words a _ (n .1 .1))
+    groups-placed w v (g-or {a = a} p q r d) n = some-each Good first-words later-words rest-words (Rules ms) (PlacedRule text) rules-placed d (first-words a _ (n .1 .1))
 
     constraints-placed : {a : List Word} {l : List Group} → Constraints ms a l → Good a → Every (PlacedGroup text) l
     constraints-placed (k-or {a = a} {g = g} d) n = (groups-placed a g d n, tt)
-    constraints-placed (k-and {a = a} p q r d) n = some-placed (Groups ms) (PlacedGroup text) groups-placed d (first-words a _ (n .1 .1))
+    constraints-placed (k-and {a = a} p q r d) n = some-each Good first-words later-words rest-words (Groups ms) (PlacedGroup text) groups-placed d (first-words a _ (n .1 .1))
 
   -- ## Declarations and the actor
 
@@ -164,9 +153,9 @@ module _ (text : List ℕ) where
       let memories = later-words b _ ports in
       record {
         called = n .0;
-        signature = commas-placed Names (Spelled text) names-placed x (first-words a _ (n .1 .1));
-        ports = some-placed Ports (PlacedPort text) ports-placed y (first-words b _ ports);
-        memories = many-placed Memories (PlacedMemory text) memories-placed z (first-words c _ memories);
+        signature = commas-each Good first-words later-words rest-words Names (Spelled text) names-placed x (first-words a _ (n .1 .1));
+        ports = some-each Good first-words later-words rest-words Ports (PlacedPort text) ports-placed y (first-words b _ ports);
+        memories = many-each Good first-words later-words rest-words Memories (PlacedMemory text) memories-placed z (first-words c _ memories);
         groups = constraints-placed (spelledOf (memoryNames ms)) k (first-words d _ (later-words c _ memories));
       }
 

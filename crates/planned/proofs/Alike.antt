@@ -15,11 +15,11 @@ use Rattle.plan.specs.Items.{decodeAll}
 use Rattle.plan.specs.Layout.{portCount, memoryCount, portAt, presentAt, absentAt, groupCount, groupAt, rulesBefore, codeAt}
 use Rattle.plan.specs.Sound.{Rules, Check, check, broken, test, inputOk, check1, checkStep, checkAll, Ended, ended, unended, endOf, sectionsOk, ruleCheck, joined, groupCheck, groupsCheck, soundOf}
 use Rattle.cycle.specs.Machine.{State, state, exec1, execAll, bitsAgree, matchesOf, matching, Fired, fired, unfired, firing, allBelow, inputFits, memoryFits, fitting, counts, execRules, refusedBy, ends, soundCycle, cycleOf}
-use Rattle.planned.specs.Formed.{Every}
 use Rattle.planned.specs.Theorems.{SameGiven, Alike}
 use Rattle.planned.proofs.Names.{both-true}
 use Rattle.planned.proofs.Masks.{bit-small}
 use native.Mathlib.Decide.{decLt}
+use Rattle.placed.specs.Placed.{Every}
 
 ended-not : {A : Type 0} {d : ℕ} → unended ≡ ended d → A
 ended-not e = let z : _≡_ {A = ℕ} 0 1 = cc in absurd (omega arith)

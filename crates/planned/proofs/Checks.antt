@@ -28,9 +28,11 @@ use Rattle.plan.specs.declared.Item.{Item}
 use Rattle.plan.specs.declared.Item.the-variants.{Const, Port, Let as Kept, Cell, Range, Copies, Beside, Before, Between, Choice, Arm, Keep}
 use Rattle.plan.specs.Sound.{Rules, Check, check, push, test, inputOk, memoryOk, slotWidth, check1, checkStep, checkAll}
 use Rattle.plan.specs.Layout as Layout
+use Rattle.placed.specs.Placed.{Every}
+use Rattle.placed.proofs.Every.{every-map, every-append}
 use Rattle.planned.specs.PlanOf.{Slot, extents, widthOf, wideOf, constant, readItem, memoryAt, code, planOf}
-use Rattle.planned.specs.Formed.{Kind, whole, parts, arms, IsParts, IsArms, FormedAt, nest, Every}
-use Rattle.planned.proofs.Names.{true-both, every-append, every-map}
+use Rattle.planned.specs.Formed.{Kind, whole, parts, arms, IsParts, IsArms, FormedAt, nest}
+use Rattle.planned.proofs.Names.{true-both}
 use Rattle.planned.proofs.Extents.{IsWide, width-of, one-wide, two-wide, choice-wide, limited-wide, sized-wide, positions-wide}
 use Rattle.planned.proofs.Runs.{Kept-below, kept-refl, kept-trans, kept-set, at-fifteen}
 use Rattle.planned.proofs.Faultless.{sized-words}

@@ -3,24 +3,11 @@ use Prim.Native.Nat.{ℕ}
 use mathlib.Core.Path.{_≡_, refl, sym, ap, _∙_}
 use mathlib.Core.List.{List, [], _∷_, _++_}
 use mathlib.Core.Bool.{Bool, true, false, _||_, true≢false}
-use native.Mathlib.Omega.{arith}
 use lib.ListN.{set}
 use lib.Seq.{set-comm}
 use lib.Dec.{eqb}
 use borrow.Author.Tests.{eqb-true, eqb-false, eq-eqb, ne-eqb}
-use Rattle.language.specs.Parts.{each}
 use Rattle.language.specs.Meaning.{Change, touched, twice, written}
-
--- ## Lists
-
-pub each-append : {A B : Type 0} (f : A → List B) (l m : List A) → each f (l ++ m) ≡ each f l ++ each f m
-unfolding each
-each-append f [] m = refl
-each-append f (x ∷ l) m = ap (λ (r : List _). f x ++ r) (each-append f l m) ∙ sym (mathlib.Core.List.append-assoc (f x) (each f l) (each f m))
-
-pub append-nils : {A : Type 0} (l m : List A) → l ++ m ≡ [] → (l ≡ []) × (m ≡ [])
-append-nils [] m e = (refl, e)
-append-nils (x ∷ l) m e = let z : _≡_ {A = ℕ} 0 1 = cc in absurd (omega arith)
 
 -- ## Writes: the latest first, or the earliest
 

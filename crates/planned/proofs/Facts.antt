@@ -5,7 +5,6 @@ use mathlib.Core.List.{List, [], _∷_, _++_}
 use mathlib.Core.Bool.{Bool, true, false, not}
 use lib.ListN.{length, drop}
 use lib.Dec.{leb}
-use borrow.Author.Tests.{leb-true}
 use Rattle.language.specs.Text.{Name, among}
 use Rattle.language.specs.Words.{Word}
 use Rattle.language.specs.Tree.{Port, Entry, Expr, Assignment, assign, write, Statement, alone, scoped, Rule, Group, Actor, spelledOf, portNames, memoryNames}
@@ -16,10 +15,14 @@ use Rattle.language.specs.Counts as Counts
 use Rattle.language.specs.Widths.{portWidth, memoryWidth}
 use Rattle.language.specs.Sizes.{Setting, statementSizes, sizeFaults}
 use Rattle.language.specs.Presence.{presentNames, outputOf, outputsOf, assignedIn, inputsIn, rulePresence, groupPresence, presenceFaults}
-use Rattle.planned.specs.Formed.{Every, FormedRule, FormedStatement}
-use Rattle.planned.specs.Accepted.{Accepted, Worded, Grammatical}
-use Rattle.planned.proofs.Effects.{append-nils, or-both}
-use Rattle.planned.proofs.Names.{every-nil, every-map, every-both, append-every, every-flat, every-each, when-not, when-nil, every-among, among-here, among-there, among-append, Distinct, repeated-distinct, missing-none, every-spelled}
+use Rattle.placed.specs.Placed.{Every}
+use Rattle.placed.specs.Worded.{Worded}
+use Rattle.placed.proofs.Every.{append-nils, every-nil, every-map, every-both, append-every, every-flat, every-each}
+use Rattle.placed.proofs.Worded.{short-actor}
+use Rattle.planned.specs.Formed.{FormedRule, FormedStatement}
+use Rattle.planned.specs.Accepted.{Accepted, Grammatical}
+use Rattle.planned.proofs.Effects.{or-both}
+use Rattle.planned.proofs.Names.{when-not, when-nil, every-among, among-here, among-there, among-append, Distinct, repeated-distinct, missing-none, every-spelled}
 use Rattle.planned.proofs.Masks.{Known}
 use Rattle.planned.proofs.Outputs.{distinct-once, spelled-append, Wider, GroupsApart}
 use Rattle.planned.proofs.Rules.{FineRule, FineStatement}
@@ -65,14 +68,7 @@ module _ (ws : List Word) (a : Actor) (h : limitFaults ws a ≡ []) where
 
   -- no whole expression has too many words
   pub word-facts : Worded ws a → Every (λ e. exprWords e ≤ 256) (each wholes (statements a))
-  word-facts w = every-map _ _ (λ e q. one e (q .0) (q .1)) (each wholes (statements a)) (every-both _ _ (each wholes (statements a)) w (limit-facts .7))
-    where
-      one : (e : Expr) → (wordAfter ws (start e) 256 ≡ [] → exprWords e ≤ 256) → wordy e ≡ [] → exprWords e ≤ 256
-      one e f q = go (leb (exprWords e) 256) refl q
-        where
-          go : (b : Bool) → leb (exprWords e) 256 ≡ b → _≡_ {A = List ℕ} (elim b [ true ↦ [] | false ↦ wordAfter ws (start e) 256 ]) [] → exprWords e ≤ 256
-          go true k q = leb-true _ _ k
-          go false k q = f q
+  word-facts w = short-actor w h .inWholes
 
 -- ## Ports
 

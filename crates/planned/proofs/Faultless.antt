@@ -15,9 +15,9 @@ use Rattle.language.specs.Counts.{breadthWords, amountWords, exprWords, valName
 use Rattle.language.specs.Widths.{typeWidth, portWidth}
 use Rattle.language.specs.Values.{rangeWidth}
 use Rattle.language.specs.Sizes.{Setting, Extent, wide, faulty, one-part, two-parts, faultsOf, limited, Let, letNamed, used, breadthOf, amountOf, positionAt, positions, readExtent, extent, fitted, valExtent, valLets, valSizes, assignmentSizes, statementSizes}
-use Rattle.planned.specs.Formed.{Kind, whole, parts, arms, IsPart, IsParts, IsArms, FormedAt, FormedAssignment, FormedStatement, nest, Every}
-use Rattle.planned.proofs.Effects.{append-nils}
-use Rattle.planned.proofs.Names.{every-nil, every-append}
+use Rattle.placed.specs.Placed.{Every}
+use Rattle.placed.proofs.Every.{append-nils, every-nil, every-append}
+use Rattle.planned.specs.Formed.{Kind, whole, parts, arms, IsPart, IsParts, IsArms, FormedAt, FormedAssignment, FormedStatement, nest}
 use Rattle.planned.proofs.Extents.{IsWide}
 use Rattle.planned.proofs.Rules.{Fine, FineAssignment, FineVals, FineStatement, valsIn}
 

@@ -15,7 +15,7 @@ use Rattle.language.specs.Meaning.{agrees, matching, firing, fired, unfired, Fi
 use Rattle.plan.specs.Layout.{groupAt, rulesBefore, codeAt}
 use Rattle.cycle.specs.Machine as Machine
 use Rattle.planned.specs.PlanOf.{ruleCode, planOf}
-use Rattle.planned.proofs.Effects.{each-append}
+use Rattle.placed.proofs.Every.{each-append}
 use Rattle.planned.proofs.Sections.{noRule, noGroup, rules-before}
 use Rattle.planned.proofs.Rules.{FineRule, Coded}
 

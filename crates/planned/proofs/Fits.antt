@@ -22,8 +22,9 @@ use Rattle.language.specs.Meaning.{Given, portAt, isPresent, copiesIn, cellWidt
 use Rattle.plan.specs.Layout.{portCount, memoryCount, memoryWidthAt, memorySizeAt, cellsBefore}
 use Rattle.plan.specs.Layout as Layout
 use Rattle.cycle.specs.Machine.{allBelow, inputFits, memoryFits}
+use Rattle.placed.proofs.Every.{every-nil, nil-every}
 use Rattle.planned.specs.PlanOf.{portNumber, planOf}
-use Rattle.planned.proofs.Names.{bool-iff, both-true, true-both, every-nil, nil-every, every-among, among-every, Distinct, index-at, index-distinct}
+use Rattle.planned.proofs.Names.{bool-iff, both-true, true-both, every-among, among-every, Distinct, index-at, index-distinct}
 use Rattle.planned.proofs.Masks.{port-below, bit-small}
 use Rattle.planned.proofs.Sections.{noName, noMemory, port-count, port-at, memory-count, memory-width, memory-size}
 

@@ -19,8 +19,8 @@ use Rattle.language.specs.Sizes.{Setting}
 use Rattle.language.specs.Meaning.{portAt, isPresent, agrees}
 use Rattle.plan.specs.Layout.{presentAt, absentAt}
 use Rattle.cycle.specs.Machine.{bitsAgree, matchesOf}
+use Rattle.placed.specs.Placed.{Every}
 use Rattle.planned.specs.PlanOf.{maskOf}
-use Rattle.planned.specs.Formed.{Every}
 use Rattle.planned.proofs.Names.{bool-iff, both-true, true-both, or-right, Distinct, among-there, among-here, index-below, index-at, length-spelled}
 
 -- ## Bits

@@ -22,12 +22,13 @@ use Rattle.plan.specs.Layout.{portCount, memoryCount, cellsBefore, groupCount, 
 use Rattle.plan.specs.Sound.{soundOf}
 use Rattle.cycle.specs.Machine.{state, counts, execRules, ends, soundCycle, cycleOf}
 use Rattle.cycle.specs.Machine as Machine
+use Rattle.placed.specs.Placed.{Every}
+use Rattle.placed.proofs.Every.{every-map, every-flat, every-each, every-at}
 use Rattle.planned.specs.PlanOf.{planOf}
 use Rattle.planned.specs.Cycles.{cyclesOf}
-use Rattle.planned.specs.Formed.{Every}
 use Rattle.planned.specs.Accepted.{Accepted, Grammatical}
 use Rattle.planned.proofs.Effects.{backwards, twice-backwards, written-backwards}
-use Rattle.planned.proofs.Names.{both-true, every-at, every-each, every-map, every-flat, every-spelled}
+use Rattle.planned.proofs.Names.{both-true, every-spelled}
 use Rattle.planned.proofs.Masks.{ones-past, matches-agrees}
 use Rattle.planned.proofs.Sections.{noRule, noGroup, cellsIn, port-count, memory-count, group-count, cells-before, group-at, rule-present, rule-absent, code-at}
 use Rattle.planned.proofs.Fits.{inputs-agree, cells-agree, length-copies}

@@ -12,7 +12,7 @@ use Rattle.language.specs.Parts.{each}
 use Rattle.language.specs.Presence.{outputOf, outputsOf, assignedIn}
 use Rattle.language.specs.Sizes.{Setting, Let}
 use Rattle.language.specs.Meaning.{Bits, Given, Change, portAt, agrees, matching, firing, fired, unfired, Fired, assignsOf, inStatement, inRules, assignedTo, letsOf}
-use Rattle.planned.specs.Formed.{Every}
+use Rattle.placed.specs.Placed.{Every}
 use Rattle.planned.proofs.Effects.{or-both}
 use Rattle.planned.proofs.Names.{same-refl, same-eq, among-of, among-append, among-here, among-there, Distinct, length-spelled, index-distinct}
 use Rattle.planned.proofs.Masks.{port-same}

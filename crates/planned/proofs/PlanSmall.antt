@@ -20,11 +20,11 @@ use Rattle.language.specs.Sizes.{Setting}
 use Rattle.language.specs.Meaning.{cellsOf, cellsBefore}
 use Rattle.language.specs.Presence.{assignedIn}
 use Rattle.plan.specs.Items.{encode}
+use Rattle.placed.specs.Placed.{Every}
+use Rattle.placed.proofs.Every.{every-map, every-both, append-every, every-flat}
 use Rattle.planned.specs.PlanOf.{memoryAt, portNumber, memoryNumbers, ruleNumbers, ruleCode, bodyCode, maskOf, planOf}
-use Rattle.planned.specs.Formed.{Every}
 use Rattle.planned.specs.Accepted.{Accepted, Grammatical}
 use Rattle.planned.specs.Lengths.{actorWords}
-use Rattle.planned.proofs.Names.{append-every, every-flat, every-map, every-both}
 use Rattle.planned.proofs.Masks.{port-below}
 use Rattle.planned.proofs.Sections.{noMemory, cellsIn, port-count, code-count}
 use Rattle.planned.proofs.Facts.{limit-facts, signature-short, outputs-known, port-small, memory-small}

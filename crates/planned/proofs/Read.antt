@@ -25,7 +25,7 @@ use Rattle.language.specs.Presence.{presenceFaults}
 use Rattle.language.specs.Reading.{Answer, refused, accepted, Early, stopped, through, row, judged, parsed, worded, early, late, Reads, reads-early, reads-late}
 use Rattle.language.specs.declared.Text.{Text}
 use Rattle.language.specs.declared.Text.the-variants.{Actor as InActor, Bindings as InBindings}
-use Rattle.planned.specs.Formed.{Every}
+use Rattle.placed.specs.Placed.{Every}
 use Rattle.planned.specs.Accepted.{Accepted, NumberWord}
 
 -- ## Rows

@@ -20,8 +20,9 @@ use Rattle.language.specs.declared.Binary.the-variants.{Multiply, Divide, Remai
 use Rattle.plan.specs.Items.{encode, decode, decodeAll, unaryItem, binaryItem}
 use Rattle.plan.specs.Layout.{codeAt}
 use Rattle.cycle.specs.Machine.{state, execAll, execRules, writeTo}
+use Rattle.placed.specs.Placed.{Every}
 use Rattle.planned.specs.PlanOf.{Slot, extents, widthOf, memoryAt, code, assignmentCode, letsFrom, valsCode, bodyCode, ruleCode}
-use Rattle.planned.specs.Formed.{whole, FormedAt, nest, Every}
+use Rattle.planned.specs.Formed.{whole, FormedAt, nest}
 use Rattle.planned.proofs.Extents.{Paired, paired-map, IsWide, width-of, one-wide, two-wide, fitted-wide, SameWidth, width-agrees}
 use Rattle.planned.proofs.Runs.{Kept-below, kept-refl, kept-trans, exec-append, Runs, Holds, holds-kept, holds-widths, code-runs}
 use Rattle.planned.proofs.Effects.{backwards, backwards-append}

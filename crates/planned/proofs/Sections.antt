@@ -16,7 +16,7 @@ use Rattle.language.specs.Widths.{portWidth, memoryWidth}
 use Rattle.language.specs.Sizes.{Setting}
 use Rattle.plan.specs.Layout.{portCount, portAt, memoriesFrom, memoryCount, memoryWidthAt, memorySizeAt, cellsBefore, groupsFrom, groupCount, groupAt, rulesBefore, rulesFrom, ruleCount, presentAt, absentAt, lengthAt, codeBefore, codeFrom, codeCount, codeAt}
 use Rattle.planned.specs.PlanOf.{portNumber, memoryNumbers, ruleNumbers, ruleCode, maskOf, planOf}
-use Rattle.planned.proofs.Effects.{each-append}
+use Rattle.placed.proofs.Every.{each-append}
 
 -- ## A section: a count, what is counted, and what follows
 

@@ -28,9 +28,11 @@ use Rattle.plan.specs.declared.Item.the-variants.{Port, Let as Kept}
 use Rattle.plan.specs.Items.{encode, unaryNumber, binaryNumber}
 use Rattle.plan.specs.Sound.{inputOk}
 use Rattle.plan.specs.Layout as Layout
+use Rattle.placed.specs.Placed.{Every}
+use Rattle.placed.proofs.Every.{every-map, every-append, append-every}
 use Rattle.planned.specs.PlanOf.{Slot, extents, widthOf, wideOf, constant, readItem, memoryAt, code, assignmentCode, letsFrom, valsCode, bodyCode, planOf}
-use Rattle.planned.specs.Formed.{Kind, whole, parts, arms, FormedAt, nest, Every}
-use Rattle.planned.proofs.Names.{both-true, every-append, append-every, every-map}
+use Rattle.planned.specs.Formed.{Kind, whole, parts, arms, FormedAt, nest}
+use Rattle.planned.proofs.Names.{both-true}
 use Rattle.planned.proofs.Extents.{IsWide, width-of, one-wide, two-wide, choice-wide, limited-wide, sized-wide, positions-wide, fitted-wide}
 use Rattle.planned.proofs.Rules.{Fine, FineAssignment, FineVals, FineStatement, valsIn, val-inner, lets-extents}
 use Rattle.planned.proofs.Checks.{SmallLets, Readable, Celled, ItemOk, small-extent, named-holds, NotParts, plain-holds}

@@ -21,10 +21,11 @@ use Rattle.language.specs.Meaning.{portAt, cellsOf, cellsBefore}
 use Rattle.language.specs.Presence.{presentNames}
 use Rattle.plan.specs.Layout as Layout
 use Rattle.plan.specs.Sound.{inputOk, memoryOk}
+use Rattle.placed.specs.Placed.{Every}
+use Rattle.placed.proofs.Every.{append-nils, every-nil, every-append, every-each}
 use Rattle.planned.specs.PlanOf.{memoryAt, maskOf, planOf}
-use Rattle.planned.specs.Formed.{Every, FormedStatement, FormedAssignment}
-use Rattle.planned.proofs.Effects.{append-nils}
-use Rattle.planned.proofs.Names.{every-nil, every-append, every-each, when-not, or-right, same-refl, same-eq, among-of, among-append, among-here, every-among, index-at, Distinct, missing-none}
+use Rattle.planned.specs.Formed.{FormedStatement, FormedAssignment}
+use Rattle.planned.proofs.Names.{when-not, or-right, same-refl, same-eq, among-of, among-append, among-here, every-among, index-at, Distinct, missing-none}
 use Rattle.planned.proofs.Masks.{bit-other, listed, Known, mask-bits, port-same, port-below}
 use Rattle.planned.proofs.Sections.{noMemory, cellsIn, port-count, memory-count, memory-width, memory-size, cells-before}
 use Rattle.planned.proofs.Fits.{input-number, output-number}

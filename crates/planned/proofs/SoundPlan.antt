@@ -20,11 +20,13 @@ use Rattle.language.specs.Meaning.{portAt}
 use Rattle.language.specs.Presence.{presentNames, assignedIn, readIn, inputsIn, rulePresence}
 use Rattle.plan.specs.Layout.{presentAt, codeAt, groupAt, rulesBefore}
 use Rattle.plan.specs.Sound.{endOf, Ended, ended, unended, ruleCheck, joined, groupCheck, groupsCheck, soundOf}
+use Rattle.placed.specs.Placed.{Every}
+use Rattle.placed.proofs.Every.{append-nils, every-nil, every-map, every-both, every-append, every-each, every-at}
 use Rattle.planned.specs.PlanOf.{maskOf, bodyCode, ruleCode, planOf}
-use Rattle.planned.specs.Formed.{Every, FormedRule, FormedStatement}
+use Rattle.planned.specs.Formed.{FormedRule, FormedStatement}
 use Rattle.planned.specs.Accepted.{Accepted, Grammatical}
-use Rattle.planned.proofs.Effects.{append-nils, or-both}
-use Rattle.planned.proofs.Names.{every-nil, every-map, every-both, every-append, every-each, every-at, missing-none, among-append, Distinct, repeated-distinct, every-spelled, spelled-every}
+use Rattle.planned.proofs.Effects.{or-both}
+use Rattle.planned.proofs.Names.{missing-none, among-append, Distinct, repeated-distinct, every-spelled, spelled-every}
 use Rattle.planned.proofs.Masks.{bit-zero, bit-past, bit-small, bit-same, bit-below, port-below}
 use Rattle.planned.proofs.Sections.{noRule, noGroup, group-count, group-at, rule-present, code-at}
 use Rattle.planned.proofs.Outputs.{Once, distinct-once, spelled-append, Wider, Apart, GroupsApart}

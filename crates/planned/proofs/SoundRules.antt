@@ -24,9 +24,11 @@ use Rattle.plan.specs.declared.Item.{Item}
 use Rattle.plan.specs.declared.Item.the-variants.{Keep, Assign, Write}
 use Rattle.plan.specs.Layout as Layout
 use Rattle.plan.specs.Sound.{Rules, check, outputOk, test, check1, checkStep, checkAll}
+use Rattle.placed.specs.Placed.{Every}
+use Rattle.placed.proofs.Every.{every-map}
 use Rattle.planned.specs.PlanOf.{Slot, extents, widthOf, memoryAt, code, assignmentCode, letsFrom, valsCode, bodyCode, planOf}
-use Rattle.planned.specs.Formed.{whole, FormedAt, Every}
-use Rattle.planned.proofs.Names.{every-map, among-of}
+use Rattle.planned.specs.Formed.{whole, FormedAt}
+use Rattle.planned.proofs.Names.{among-of}
 use Rattle.planned.proofs.Extents.{IsWide, wide-at, width-of, two-wide, limited-wide, fitted-wide}
 use Rattle.planned.proofs.Runs.{Kept-below, kept-refl, kept-trans}
 use Rattle.planned.proofs.Rules.{Fine, FineAssignment, FineVals, FineStatement, valsIn, lets-extents, val-inner}

@@ -26,11 +26,11 @@ use Rattle.plan.specs.Items.{encode}
 use Rattle.plan.specs.declared.Item.{Item}
 use Rattle.plan.specs.declared.Item.the-variants.{Const, Port, Let as Kept, Cell, Range, Copies, Beside, Before, Between, Choice, Arm, Keep, Assign, Write, Bad}
 use Rattle.plan.specs.Sound.{portOk, memoryFits, groupOk, allUpTo, apart, ruleOk, sectionsOk}
+use Rattle.placed.proofs.Every.{append-nils, every-at, each-append}
 use Rattle.planned.specs.PlanOf.{maskOf, ruleCode, bodyCode, planOf}
 use Rattle.planned.specs.Formed.{NotEmpty, FormedGroup}
 use Rattle.planned.specs.Accepted.{Accepted, Grammatical}
-use Rattle.planned.proofs.Effects.{each-append, append-nils}
-use Rattle.planned.proofs.Names.{both-true, true-both, every-at, when-not, among-here, Distinct}
+use Rattle.planned.proofs.Names.{both-true, true-both, when-not, among-here, Distinct}
 use Rattle.planned.proofs.Masks.{listed, Known, unlisted, mask-bits, port-below}
 use Rattle.planned.proofs.Sections.{noMemory, noRule, noGroup, length-fixed, cellsIn, port-count, memory-count, group-count, rule-count, code-section, code-count, memory-width, memory-size, group-at, rule-present, rule-absent, rule-length, code-before, cells-before, rules-before}
 use Rattle.planned.proofs.Fits.{input-number, output-number}

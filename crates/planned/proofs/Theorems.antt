@@ -10,7 +10,7 @@ use Rattle.language.specs.Grammar.{Actors}
 use Rattle.language.specs.Sizes.{Setting}
 use Rattle.language.specs.Reading.{accepted, Reads}
 use Rattle.language.proofs.Main.{grammar-correct}
-use Rattle.planned.specs.Formed.{Every}
+use Rattle.placed.specs.Placed.{Every}
 use Rattle.planned.specs.Accepted.{Accepted, NumberWord}
 use Rattle.planned.specs.Theorems.{Planned}
 use Rattle.planned.proofs.Means.{plan-means, plan-uncounted, plan-runs}

@@ -5,14 +5,15 @@ use Prim.Native.Nat.{_≤_}
 use Rattle.language.specs.Words.{Word, num, name, digits, fixed}
 use Rattle.language.specs.Tree.{Actor}
 use Rattle.language.specs.Limits.{limits}
-use Rattle.language.specs.Parts.{each, start, wholes, statements, actorItems, types}
+use Rattle.language.specs.Parts.{each, actorItems, types}
 use Rattle.language.specs.Names.{nameFaults}
-use Rattle.language.specs.Counts.{exprWords, wordAfter, limitFaults}
+use Rattle.language.specs.Counts.{limitFaults}
 use Rattle.language.specs.Types.{typeFaults}
 use Rattle.language.specs.Widths.{strangers, unsettled, Least}
 use Rattle.language.specs.Sizes.{Setting, sizeFaults}
 use Rattle.language.specs.Presence.{presenceFaults}
-use Rattle.planned.specs.Formed.{Every, Formed}
+use Rattle.placed.specs.Worded.{Worded}
+use Rattle.planned.specs.Formed.{Formed}
 
 pub record Accepted (ws : List Word) (s : Setting) : Type 0 where
   pub names : nameFaults (s .actor) ≡ []
@@ -23,10 +24,6 @@ pub record Accepted (ws : List Word) (s : Setting) : Type 0 where
   pub least : Least (s .actor) (s .bindings) (s .widths)
   pub sized : sizeFaults s ≡ []
   pub present : presenceFaults (s .actor) ≡ []
-
--- row 7 finds a whole expression of too many words: its first word is among the actor's, and as many follow
-abbrev pub Worded : List Word → Actor → Type 0
-Worded ws a = Every (λ e. wordAfter ws (start e) (limits .whole) ≡ [] → exprWords e ≤ limits .whole) (each wholes (statements a))
 
 -- what the grammar gives of an actor and its words
 pub record Grammatical (ws : List Word) (a : Actor) : Type 0 where

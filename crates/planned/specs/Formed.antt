@@ -7,6 +7,7 @@ use Rattle.language.specs.Text.{among}
 use Rattle.language.specs.Limits.{limits}
 use Rattle.language.specs.Tree.{Expr, plain, sized, copies, read, cell, bit, range, inside, joined, beside, unary, binary, choice, either, select, arm, default}
 use Rattle.language.specs.Tree.{Assignment, assign, write, Statement, alone, scoped, Rule, Group, Actor, spelledOf, memoryNames}
+use Rattle.placed.specs.Placed.{Every}
 
 -- where an expression stands: by itself, among the parts of a concatenation, among the arms of a case
 pub data Kind : Type 0 where
@@ -66,11 +67,6 @@ nest (either p c a b) = max (nest c) (max (nest a) (nest b))
 nest (select p e a) = max (nest e) (suc (nest a))
 nest (arm n e r) = max (nest e) (nest r)
 nest (default p e) = nest e
-
--- every one of a list
-abbrev pub Every : {A : Type 0} → (A → Type 0) → List A → Type 0
-Every P [] = Unit {0}
-Every P (x ∷ l) = P x × Every P l
 
 abbrev pub NotEmpty : {A : Type 0} → List A → Type 0
 NotEmpty [] = ⊥

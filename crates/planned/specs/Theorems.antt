@@ -14,8 +14,8 @@ use Rattle.language.specs.Meaning.{Outcome, Turn, cellWidths, cycle, run}
 use Rattle.plan.specs.Layout.{portCount, portAt, memoryWidthAt}
 use Rattle.plan.specs.Sound.{soundOf}
 use Rattle.cycle.specs.Machine.{cycleOf}
+use Rattle.placed.specs.Placed.{Every}
 use Rattle.planned.specs.PlanOf.{planOf}
-use Rattle.planned.specs.Formed.{Every}
 use Rattle.planned.specs.Cycles.{cyclesOf}
 
 -- of the actor of a setting, read from these words

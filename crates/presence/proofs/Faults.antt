@@ -10,7 +10,8 @@ use Rattle.language.specs.Names.{when, clashing, missing, repeated, inputNames}
 use Rattle.language.specs.Presence.{presentNames, outputOf, outputsOf, assignedIn, readIn, inputsIn, rulePresence, groupPresence, presenceFaults}
 use Rattle.language.specs.Tree.{Expr, Entry, Val, Assignment, Statement, alone, scoped, Rule, Group, Actor, spelledOf}
 use Rattle.known.proofs.Asks.{never, told-of, itemA}
-use Rattle.known.proofs.Parts.{pushed, each-append}
+use Rattle.placed.proofs.Every.{each-append}
+use Rattle.known.proofs.Parts.{pushed}
 use Rattle.known.proofs.Same.{Same, is, equal, then, beside, mix, Split, both, first, of, into, split-each, when-or, each-as, each-each, or-false, among-append, among-pushed, among-some}
 use Rattle.presence.proofs.Actors.{unready, requiredOnto, namesF, exprF, assignF, assignsF, statementF, bodyF, ruleF, groupsF, each-never}
 
