@@ -20,7 +20,7 @@ three l k h = go (k + 1) (k + 2) (k + 3) refl refl refl
         suc-is a b q = omega arith
 
 module _ (t : List ℕ) (n i : ℕ) (h : 3 * i + 2 < n) (k : n ≤ length t) where
-  item-at : drop (3 * i) (take n t) ≡ opAt t i ∷ placeAt t i ∷ valueAt t i ∷ drop (3 * suc i) (take n t)
+  pub item-at : drop (3 * i) (take n t) ≡ opAt t i ∷ placeAt t i ∷ valueAt t i ∷ drop (3 * suc i) (take n t)
   item-at = three (take n t) (3 * i) (let e = length-take n t in omega arith) ∙ parts
     where
       parts : getD (take n t) (3 * i) 0 ∷ getD (take n t) (3 * i + 1) 0 ∷ getD (take n t) (3 * i + 2) 0 ∷ drop (3 * i + 3) (take n t) ≡ opAt t i ∷ placeAt t i ∷ valueAt t i ∷ drop (3 * suc i) (take n t)
