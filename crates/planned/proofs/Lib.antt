@@ -1,17 +1,17 @@
-mod Extents
+pub mod Extents
 mod Runs
 mod Effects
-mod Rules
+pub mod Rules
 mod Names
 mod Masks
 mod Sections
 mod Firing
 mod Outputs
 mod Fits
-mod Faultless
-mod Facts
+pub mod Faultless
+pub mod Facts
 mod Means
-mod Checks
+pub mod Checks
 mod SoundRules
 mod SoundNames
 mod SoundSections
