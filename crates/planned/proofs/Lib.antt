@@ -14,7 +14,7 @@ mod Means
 pub mod Checks
 mod SoundRules
 mod SoundNames
-mod SoundSections
+pub mod SoundSections
 mod SoundPlan
 pub mod Alike
 mod Resolved
