@@ -1,14 +1,14 @@
 -- What each section of a plan makes of an actor's items. Assumes nothing.
-use mathlib.Core.Path.{_≡_, refl, sym, ap, ap₂, _∙_, subst}
-use mathlib.Core.Bool.{Bool, true, false, not, _&&_, _||_, Bool·beq}
-use mathlib.Core.List.{List, [], _∷_, _++_, append-assoc, append-nil}
-use Prim.Native.Nat.{ℕ, zero, suc, _+_, _%_, _^_, _<_, _≤_}
+use mathlib.Core.Path.{_≡_, refl, sym, ap, ap₂, _∙_}
+use mathlib.Core.Bool.{Bool, true, false, _&&_, Bool·beq}
+use mathlib.Core.List.{List, [], _∷_, _++_, append-assoc}
+use Prim.Native.Nat.{ℕ, suc, _+_, _%_, _^_}
 use native.Mathlib.Omega.{arith}
 use native.Mathlib.Nat.{zero-add, add-zero, add-assoc}
 use lib.Dec.{eqb}
 use lib.ListN.{length, getD, length-append}
 use Rattle.language.specs.Text.{Name, among}
-use Rattle.language.specs.Tree.{Entry, Rule, Group, Memory, Actor}
+use Rattle.language.specs.Tree.{Entry, Rule, Group, Memory}
 use Rattle.language.specs.Parts.{each}
 use Rattle.language.specs.Names.{inputNames}
 use Rattle.language.specs.Widths.{portWidth}
@@ -21,7 +21,7 @@ use Rattle.making.specs.Made.{ruleNumbers as numbersOfRule}
 use Rattle.planned.specs.PlanOf.{maskOf, portNumber}
 use Rattle.planned.specs.PlanOf.{memoryNumbers as numbersOfMemory}
 use Rattle.settled.specs.Settled.{one-if}
-use Rattle.made.proofs.Silent.{quiet, Silent, silent-body, not-it}
+use Rattle.made.proofs.Silent.{quiet, silent-body, not-it}
 use Rattle.made.proofs.Sections.{portOf, signedItems, memoryItems, entryItems, bodyItems, ruleItems, groupItems}
 
 -- ---- items without an operation

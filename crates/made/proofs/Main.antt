@@ -1,14 +1,14 @@
 -- THE THEOREM: the plan that is made of an accepted actor's settled items is the actor's plan. Assumes nothing.
-use mathlib.Core.Path.{_≡_, refl, sym, ap, ap₂, _∙_, subst}
+use mathlib.Core.Path.{_≡_, refl, sym, ap, ap₂, _∙_}
 use mathlib.Core.Bool.{Bool, true, false}
-use mathlib.Core.List.{List, [], _∷_, _++_, append-assoc, append-nil}
-use Prim.Native.Nat.{ℕ, zero, suc, _+_, _%_, _^_, _≤_, _<_}
+use mathlib.Core.List.{List, [], _∷_, _++_, append-assoc}
+use Prim.Native.Nat.{ℕ, suc, _+_, _^_, _≤_, _<_}
 use native.Mathlib.Omega.{arith}
 use native.Mathlib.Nat.{mod-eq-of-lt, lt-of-lt-of-le}
 use lib.Pow.{pow-mono}
 use lib.ListN.{length, getD, length-append}
 use Rattle.language.specs.Words.{Word}
-use Rattle.language.specs.Tree.{Rule, Group, Actor}
+use Rattle.language.specs.Tree.{Rule}
 use Rattle.language.specs.Parts.{each}
 use Rattle.language.specs.Counts.{rulesOf}
 use Rattle.language.specs.Sizes.{Setting}
@@ -19,14 +19,14 @@ use Rattle.planned.specs.PlanOf.{maskOf, ruleCode, planOf}
 use Rattle.planned.specs.PlanOf.{ruleNumbers as numbersOfRule}
 use Rattle.planned.proofs.Facts.{RuleFacts, signature-short, rule-facts}
 use Rattle.planned.proofs.SoundSections.{mask-below}
-use Rattle.making.specs.Made.{Item, itemsOf, counted, picked, portNumbers, memoryNumbers, groupNumbers, ruleNumbers, planIn}
+use Rattle.making.specs.Made.{Item, itemsOf, counted, picked, memoryNumbers, groupNumbers, ruleNumbers, planIn}
 use Rattle.settled.specs.Settled.{settledOf}
 use Rattle.sizing.specs.Steps.{walk, begin}
 use Rattle.sized.specs.Statement.{Measured}
 use Rattle.sized.proofs.Main.{sized}
 use Rattle.made.specs.Statement.{Made}
 use Rattle.made.proofs.Silent.{quiet}
-use Rattle.made.proofs.Sections.{signedItems, memoryItems, groupItems, actorItems, are-actor}
+use Rattle.made.proofs.Sections.{signedItems, memoryItems, groupItems, are-actor}
 use Rattle.made.proofs.Counts.{Lacks, counted-lacks, picked-lacks, groups-lack, memories-lack, ports-lack, ports-counted, ports-picked, memories-counted, memories-picked, groups-counted, groups-picked, numbersFrom, groups-rules, groups-with-rules}
 
 module _ (s : Setting) where

@@ -1,27 +1,19 @@
 -- The items of an actor, and what each section of a plan makes of them. Assumes nothing.
-use mathlib.Core.Path.{_≡_, refl, sym, ap, ap₂, _∙_, subst}
-use mathlib.Core.Bool.{Bool, true, false, not, _&&_, _||_, Bool·beq}
+use mathlib.Core.Path.{_≡_, refl, sym, ap, _∙_}
+use mathlib.Core.Bool.{Bool, true, false}
 use mathlib.Core.List.{List, [], _∷_, _++_, append-assoc, append-nil}
-use Prim.Native.Nat.{ℕ, zero, suc, _+_, _%_, _^_, _<_, _≤_}
-use native.Mathlib.Omega.{arith}
-use lib.Dec.{eqb}
-use lib.ListN.{length, getD, length-append}
+use Prim.Native.Nat.{ℕ, _+_}
 use Rattle.language.specs.Text.{Name, among}
-use Rattle.language.specs.Tree.{Entry, Rule, Group, Memory, Actor}
+use Rattle.language.specs.Tree.{Entry, Rule, Group, Memory}
 use Rattle.language.specs.Parts.{each}
 use Rattle.language.specs.Names.{inputNames}
 use Rattle.language.specs.Counts.{sizeOf}
 use Rattle.language.specs.Widths.{portWidth, memoryWidth}
 use Rattle.language.specs.Sizes.{Setting}
 use Rattle.language.specs.Meaning.{portAt}
-use Rattle.placed.specs.Placed.{Every}
-use Rattle.placed.proofs.Every.{every-map, append-every}
-use Rattle.making.specs.Made.{Item, itemsOf, counted, picked, rulesUpTo, maskUpTo, bitOf, portNumbers, memoryNumbers, groupNumbers}
-use Rattle.making.specs.Made.{ruleNumbers as numbersOfRule}
-use Rattle.planned.specs.PlanOf.{maskOf, portNumber}
-use Rattle.planned.specs.PlanOf.{memoryNumbers as numbersOfMemory}
+use Rattle.making.specs.Made.{Item, itemsOf}
 use Rattle.settled.specs.Settled.{six, one-if, settledBody, settledEntry, settledRule, settledGroup, settledSigned, settledMemory, settledOf}
-use Rattle.made.proofs.Silent.{quiet, Silent, silent-body, not-it, counted-past, picked-past}
+use Rattle.made.proofs.Silent.{silent-body}
 
 abbrev item : ℕ → ℕ → ℕ → Item
 item o a b = record { op = o; a = a; b = b }

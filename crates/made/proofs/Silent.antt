@@ -1,7 +1,7 @@
 -- Items that the sections of a plan pass over: those of expressions and statements. Assumes nothing.
-use mathlib.Core.Path.{_≡_, refl, sym, ap, ap₂, _∙_, subst}
+use mathlib.Core.Path.{_≡_, refl, sym, ap, _∙_}
 use mathlib.Core.Bool.{Bool, true, false, not, _||_, false≢true}
-use mathlib.Core.List.{List, [], _∷_, _++_, append-assoc, append-nil}
+use mathlib.Core.List.{List, [], _∷_, _++_, append-assoc}
 use mathlib.Core.Option.{Option, none, some}
 use Prim.Native.Nat.{ℕ, suc, _+_, _/_, _%_, _^_}
 use lib.Dec.{eqb, ltb}
@@ -13,8 +13,8 @@ use Rattle.language.specs.Parts.{each}
 use Rattle.language.specs.Sizes.{Setting, Let, letNamed}
 use Rattle.placed.specs.Placed.{Every}
 use Rattle.placed.proofs.Every.{append-every}
-use Rattle.making.specs.Made.{Item, itemsOf, counted, picked, rulesUpTo, maskUpTo, bitOf}
-use Rattle.settled.specs.Settled.{six, amount, settledBreadth, settledAmount, settledCell, settledPort, settledRead, settled, settledAssignment, settledKept, slotsFrom, settledVals, settledBody}
+use Rattle.making.specs.Made.{Item, itemsOf}
+use Rattle.settled.specs.Settled.{six, amount, settledBreadth, settledAmount, settledCell, settledPort, settledRead, settled, settledAssignment, settledKept, settledVals, settledBody}
 
 -- an operation that no section asks for
 unfoldable pub quiet : ℕ → Bool
@@ -117,7 +117,7 @@ module _ (s : Setting) where
   silent-body (alone x ∷ l) k = silent-both (silent-assignment [] x) (silent-body l k)
   silent-body (scoped vs xs ∷ l) k = silent-both (silent-vals vs k []) (silent-both (silent-each _ (silent-assignment _) xs) (silent-body l _))
 
--- ---- what the sections make of them: nothing
+-- a section asks for none of them
 
 pub not-it : (o p : ℕ) → quiet o ≡ true → quiet p ≡ false → eqb o p ≡ false
 not-it o p h g = go (eqb o p) refl
@@ -125,14 +125,3 @@ not-it o p h g = go (eqb o p) refl
     go : (b : Bool) → eqb o p ≡ b → eqb o p ≡ false
     go false e = e
     go true e = absurd (false≢true (sym g ∙ ap quiet (sym (eqb-true o p e)) ∙ h))
-
-module _ (p : ℕ) (g : quiet p ≡ false) where
-  pub counted-past : (is l : List Item) → Every (λ i. quiet (i .op) ≡ true) is → counted p (is ++ l) ≡ counted p l
-  unfolding counted
-  counted-past [] l h = refl
-  counted-past (i ∷ is) l h = ap (λ (b : Bool). elim b [ true ↦ suc (counted p (is ++ l)) | false ↦ counted p (is ++ l) ]) (not-it (i .op) p (h .0) g) ∙ counted-past is l (h .1)
-
-  pub picked-past : (give : ℕ → Item → List Item → List ℕ) (k : ℕ) (is l : List Item) → Every (λ i. quiet (i .op) ≡ true) is → picked p give k (is ++ l) ≡ picked p give k l
-  unfolding picked
-  picked-past give k [] l h = refl
-  picked-past give k (i ∷ is) l h = ap (λ (b : Bool). elim b [ true ↦ give k i (is ++ l) ++ picked p give (suc k) (is ++ l) | false ↦ picked p give k (is ++ l) ]) (not-it (i .op) p (h .0) g) ∙ picked-past give k is l (h .1)

@@ -7,8 +7,8 @@ use lib.Dec.{ltb}
 use lib.ListN.{length}
 use Rattle.language.specs.Text.{Name, index, among}
 use Rattle.language.specs.Tree.{Breadth, bits, Amount, given, value}
-use Rattle.language.specs.Tree.{Prefix, Expr, plain, sized, copies, read, cell, bit, range, inside, joined, beside, unary, binary, choice, either, select, arm, default}
-use Rattle.language.specs.Tree.{Declared, untyped, Memory, Entry, Val, Assignment, assign, write, Statement, alone, scoped, Rule, Group, Actor, spelledOf, memoryNames}
+use Rattle.language.specs.Tree.{Expr, plain, sized, copies, read, cell, bit, range, inside, joined, beside, unary, binary, choice, either, select, arm, default}
+use Rattle.language.specs.Tree.{Declared, untyped, Memory, Entry, Val, Assignment, assign, write, Statement, alone, scoped, Rule, Group, spelledOf, memoryNames}
 use Rattle.language.specs.Parts.{each}
 use Rattle.language.specs.Names.{inputNames}
 use Rattle.language.specs.Counts.{sizeOf}

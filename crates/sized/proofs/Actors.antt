@@ -1,34 +1,31 @@
 -- Rules and groups one after the other, and the whole actor. Assumes nothing.
-use mathlib.Core.Path.{_≡_, refl, sym, ap, ap₂, _∙_, subst}
-use mathlib.Core.Bool.{Bool, true, false, _&&_}
+use mathlib.Core.Path.{_≡_, refl, sym, ap, ap₂, _∙_}
+use mathlib.Core.Bool.{Bool, true, false}
 use mathlib.Core.List.{List, [], _∷_, _++_, append-assoc, append-nil}
-use Prim.Native.Nat.{ℕ, zero, suc, _+_, _-_, _≤_, _<_}
+use Prim.Native.Nat.{ℕ, suc, _+_, _-_, _≤_}
 use native.Mathlib.Omega.{arith}
 use lib.Dec.{ltb}
 use lib.ListN.{length, length-append, length-replicate}
 use borrow.Author.Tests.{lt-ltb}
 use Rattle.language.specs.Text.{Name, earliest}
-use Rattle.language.specs.Tree.{Entry, Rule, Group, Memory, Actor, Statement}
-use Rattle.language.specs.Parts.{each, statements}
-use Rattle.language.specs.Counts.{rulesOf}
+use Rattle.language.specs.Tree.{Entry, Rule, Group, Memory, Statement}
+use Rattle.language.specs.Parts.{each}
 use Rattle.language.specs.Widths.{portWidth, memoryWidth}
-use Rattle.language.specs.Sizes.{Setting, statementSizes, sizeFaults}
-use Rattle.words.specs.declared.Place.{Place}
-use Rattle.words.specs.declared.Place.the-variants.{At, Nowhere}
+use Rattle.language.specs.Sizes.{Setting, statementSizes}
 use Rattle.words.specs.Found.{placeTold}
-use Rattle.plan.specs.declared.Item.{Item}
 use Rattle.planned.specs.PlanOf.{bodyCode, ruleCode}
 use Rattle.placed.specs.Placed.{Every}
-use Rattle.planned.specs.Formed.{FormedStatement, FormedRule, FormedGroup}
+use Rattle.placed.proofs.Every.{each-append}
+use Rattle.planned.specs.Formed.{FormedRule, FormedGroup}
 use Rattle.planned.proofs.Rules.{FineStatement, valsIn}
-use Rattle.settled.specs.Settled.{six, settledBody, settledEntry, settledRule, settledGroup, settledSigned, settledMemory, settledOf}
+use Rattle.settled.specs.Settled.{six, settledEntry, settledRule, settledGroup, settledSigned, settledMemory, settledOf}
 use Rattle.sizing.specs.Effects.{RULED, soonerOf, endsOf, effectOf}
-use Rattle.sizing.specs.Steps.{State, seenOf, one-if, emitsOf, heldOf, aroundOf, pick, endedOf, stepOf, walk, begin}
-use Rattle.sized.proofs.Firsts.{told, told-both, told-after, sooner-none}
-use Rattle.sized.proofs.Walks.{Goes, goes-none, goes-both, goes-six, goes-whole}
-use Rattle.sized.proofs.Left.{coded, each-both}
+use Rattle.sizing.specs.Steps.{State, seenOf, one-if, emitsOf, heldOf, aroundOf, pick, endedOf, stepOf, begin}
+use Rattle.sized.proofs.Firsts.{told, told-after}
+use Rattle.sized.proofs.Walks.{Goes, goes-both, goes-six}
+use Rattle.sized.proofs.Left.{coded}
 use Rattle.sized.proofs.Ends.{done, Ends}
-use Rattle.sized.proofs.Bodies.{ends-none, ends-told, Body, ends-body}
+use Rattle.sized.proofs.Bodies.{ends-none, ends-told, ends-body}
 
 -- ---- items that do nothing
 
@@ -148,11 +145,6 @@ module _ (s : Setting) (ms : List (List ℕ)) (ports : (n : List ℕ) → portWi
       }
 
   -- ---- rules one after the other
-
-  each-append : {A B : Type 0} (f : A → List B) (a b : List A) → each f (a ++ b) ≡ each f a ++ each f b
-  unfolding each
-  each-append f [] b = refl
-  each-append f (x ∷ a) b = ap (λ (l : List _). f x ++ l) (each-append f a b) ∙ sym (append-assoc (f x) (each f a) (each f b))
 
   as-many : (codes : List (List ℕ)) → length (each (λ (c : List ℕ). length c ∷ []) codes) ≡ length codes
   unfolding each

@@ -1,10 +1,10 @@
 -- Statements one after the other: their faults, their code, and what the slots hold. Assumes nothing.
-use mathlib.Core.Path.{_≡_, refl, sym, ap, ap₂, _∙_, subst}
+use mathlib.Core.Path.{_≡_, refl, sym, ap, _∙_, subst}
 use mathlib.Core.Bool.{Bool, true, false}
 use mathlib.Core.List.{List, [], _∷_, _++_, append-assoc, append-nil}
-use Prim.Native.Nat.{ℕ, zero, suc, _+_, _≤_, _<_}
+use Prim.Native.Nat.{ℕ, suc, _+_, _≤_, _<_}
 use native.Mathlib.Omega.{arith}
-use lib.ListN.{length, getD, set}
+use lib.ListN.{length, set}
 use lib.Dec.{leb}
 use borrow.Author.Tests.{leb-true}
 use lib.Seq.{getD-set-other, getD-set-same}
@@ -13,16 +13,15 @@ use Rattle.language.specs.Tree.{Declared, untyped, Expr, Val, Assignment, assig
 use Rattle.language.specs.Parts.{each, start}
 use Rattle.language.specs.Widths.{portWidth, memoryWidth, typeWidth}
 use Rattle.language.specs.Sizes.{Setting, Extent, wide, faulty, faultsOf, one-part, two-parts, limited, Let, extent, fitted, valExtent, valSizes, assignmentSizes, statementSizes, valLets}
-use Rattle.language.specs.Meaning.{portAt, cellsBefore, cellsOf}
+use Rattle.language.specs.Meaning.{portAt}
 use Rattle.language.specs.Text.{earliest}
 use Rattle.words.specs.Found.{placeTold}
 use Rattle.words.specs.declared.Place.{Place}
-use Rattle.words.specs.declared.Place.the-variants.{At, Nowhere}
 use Rattle.plan.specs.declared.Item.{Item}
-use Rattle.plan.specs.declared.Item.the-variants.{Keep, Assign, Write}
+use Rattle.plan.specs.declared.Item.the-variants.{Keep}
 use Rattle.planned.specs.PlanOf.{Slot, extents, widthOf, memoryAt, code, assignmentCode, letsFrom, valsCode, bodyCode}
 use Rattle.placed.specs.Placed.{Every}
-use Rattle.planned.specs.Formed.{Kind, whole, FormedAt, FormedAssignment, FormedStatement}
+use Rattle.planned.specs.Formed.{whole, FormedAt, FormedAssignment, FormedStatement}
 use Rattle.planned.proofs.Extents.{IsWide}
 use Rattle.planned.proofs.Rules.{FineAssignment, FineVals, FineStatement, valsIn}
 use Rattle.settled.specs.Settled.{six, settled, settledPort, settledCell, settledAssignment, settledKept, slotsFrom, settledVals, settledBody}

@@ -1,11 +1,11 @@
 -- What ends a statement: a value against its target. Assumes nothing.
-use mathlib.Core.Path.{_≡_, refl, sym, ap, ap₂, _∙_, subst}
-use mathlib.Core.Bool.{Bool, true, false, not, _&&_, _||_, and-false}
-use mathlib.Core.List.{List, [], _∷_, _++_, append-assoc, append-nil}
-use Prim.Native.Nat.{ℕ, suc, _+_, _-_, _*_, _≤_, _<_, min, max}
+use mathlib.Core.Path.{_≡_, refl, sym, ap, ap₂, _∙_}
+use mathlib.Core.Bool.{Bool, true, false, not, _&&_, _||_}
+use mathlib.Core.List.{List, [], _∷_, _++_, append-nil}
+use Prim.Native.Nat.{ℕ, _+_, _-_}
 use native.Mathlib.Omega.{arith}
-use lib.Dec.{eqb, leb, ltb}
-use lib.ListN.{length, getD, set, drop}
+use lib.Dec.{leb}
+use lib.ListN.{set}
 use borrow.Author.Tests.{le-leb, lt-leb, leb-true}
 use Rattle.language.specs.Text.{earliest}
 use Rattle.language.specs.Parts.{each}
@@ -15,19 +15,16 @@ use Rattle.words.specs.declared.Place.the-variants.{At, Nowhere}
 use Rattle.words.specs.Found.{earlierOf, placeTold}
 use Rattle.plan.specs.declared.Item.{Item}
 use Rattle.plan.specs.declared.Item.the-variants.{Keep, Assign, Write}
-use Rattle.plan.specs.Items.{encode}
 use Rattle.planned.specs.PlanOf.{widthOf}
-use Rattle.planned.specs.Formed.{Kind, whole}
+use Rattle.planned.specs.Formed.{whole}
 use Rattle.planned.proofs.Extents.{IsWide}
 use Rattle.settled.specs.Settled.{six}
-use Rattle.sizing.specs.declared.Effect.{Effect}
-use Rattle.sizing.specs.declared.Emits.{Emits}
-use Rattle.sizing.specs.declared.Emits.the-variants.{Nothing, Item as Adds}
+use Rattle.sizing.specs.declared.Emits.the-variants.{Item as Adds}
 use Rattle.sizing.specs.Effects.{ASSIGN, WRITE, VAL, TYPED, soonerOf, has, endsOf, unlessAt, fittedAt, assignEffect, writeEffect, valEffect, keptOf, typedEffect, effectOf}
-use Rattle.sizing.specs.Steps.{State, seenOf, one-if, emitsOf, heldOf, aroundOf, pick, endedOf, stepOf, walk}
+use Rattle.sizing.specs.Steps.{State, seenOf, one-if, emitsOf, heldOf, aroundOf, pick, endedOf, stepOf}
 use Rattle.sized.proofs.Firsts.{told, told-both, told-after, sooner-assoc, sooner-comm}
 use Rattle.sized.proofs.Walks.{Goes, goes-both, goes-six, after}
-use Rattle.sized.proofs.Left.{shape, Small, coded, Left, Emitted, more, both-code}
+use Rattle.sized.proofs.Left.{shape, Small, coded, Left, more, both-code}
 
 -- a value against its target's width
 abbrev pub fit : Extent → ℕ → ℕ → Extent

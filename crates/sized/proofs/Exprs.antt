@@ -1,19 +1,19 @@
 -- The settled items of an expression leave its extent and its code, by induction on it. Assumes nothing.
-use mathlib.Core.Path.{_≡_, refl, sym, ap, ap₂, _∙_, subst}
-use mathlib.Core.Bool.{Bool, true, false, not, _&&_, _||_, and-false}
-use mathlib.Core.List.{List, [], _∷_, _++_, append-assoc, append-nil}
+use mathlib.Core.Path.{_≡_, refl, ap, _∙_, subst}
+use mathlib.Core.Bool.{Bool, true, false, _&&_, and-false}
+use mathlib.Core.List.{List, [], _∷_, _++_}
 use mathlib.Core.Option.{Option, none, some}
-use Prim.Native.Nat.{ℕ, suc, _+_, _-_, _*_, _/_, _%_, _^_, _≤_, _<_, min, max}
+use Prim.Native.Nat.{ℕ, _+_, _-_, _*_, _^_, _≤_, _<_}
 use native.Mathlib.Omega.{arith}
 use native.Mathlib.Numerals.{add-one}
-use lib.Dec.{eqb, leb, ltb}
-use lib.ListN.{length, getD}
+use lib.Dec.{leb, ltb}
+use lib.ListN.{getD}
 use borrow.Author.Tests.{leb-true, ltb-true, le-ltb}
 use Rattle.language.specs.Text.{Name, same}
 use Rattle.language.specs.Words.{Numeral}
 use Rattle.language.specs.Tree.{Ty, Prefix, Breadth, bits, Amount, given, value, Expr, plain, sized, copies, read, cell, bit, range, inside, joined, beside, unary, binary, choice, either, select, arm, default}
 use Rattle.language.specs.Parts.{each, start, breadthStart}
-use Rattle.language.specs.Values.{plainWidth, unaryWidth, binaryWidth, rangeWidth}
+use Rattle.language.specs.Values.{unaryWidth, binaryWidth, rangeWidth}
 use Rattle.language.specs.Widths.{portWidth, memoryWidth}
 use Rattle.language.specs.Sizes.{Setting, Extent, wide, faulty, one-part, two-parts, faultsOf, limited, Let, letNamed, used, breadthOf, amountOf, positions, positionAt, readExtent, extent}
 use Rattle.language.specs.Meaning.{portAt, positionIn}
@@ -21,20 +21,18 @@ use Rattle.language.specs.declared.Unary.{Unary}
 use Rattle.language.specs.declared.Unary.the-variants.{Invert, Plus, Not, All, NotAll, Any, NotAny, Odd, NotOdd}
 use Rattle.language.specs.declared.Binary.{Binary}
 use Rattle.language.specs.declared.Binary.the-variants.{Multiply, Divide, Remainder, Add, Subtract, Left as LeftShift, Right, Less, AtMost, Greater, AtLeast, Equal, Unequal, And, NotAnd, Xor, NotXor, Or, NotOr, Both, Either}
-use Rattle.plan.specs.declared.Item.{Item}
-use Rattle.plan.specs.declared.Item.the-variants.{Const, Port, Let as Kept, Cell, Range, Copies, Beside, Before, Between, Choice, Arm, Keep, Assign, Write, Bad}
-use Rattle.plan.specs.Items.{unaryNumber, binaryNumber, unaryItem, binaryItem, encode}
-use Rattle.planned.specs.PlanOf.{Slot, extents, widthOf, wideOf, readItem, memoryAt, code, constant}
+use Rattle.plan.specs.declared.Item.the-variants.{Port, Let as Kept, Range, Copies, Before, Between, Arm, Keep}
+use Rattle.plan.specs.Items.{unaryNumber, binaryNumber, unaryItem, binaryItem}
+use Rattle.planned.specs.PlanOf.{Slot, extents, widthOf, wideOf, readItem, memoryAt, code}
 use Rattle.planned.specs.Formed.{Kind, whole, parts, arms, IsPart, FormedAt}
 use Rattle.planned.proofs.Extents.{IsWide}
 use Rattle.planned.proofs.Checks.{plain-small}
-use Rattle.settled.specs.Settled.{six, amount, placed, settledBreadth, settledAmount, settledCell, settledPort, settledRead, settled}
-use Rattle.sizing.specs.declared.Emits.{Emits}
-use Rattle.sizing.specs.declared.Emits.the-variants.{Nothing, Item as Adds}
+use Rattle.settled.specs.Settled.{six, placed, settledBreadth, settledAmount, settledCell, settledPort, settledRead, settled}
+use Rattle.sizing.specs.declared.Emits.the-variants.{Item as Adds}
 use Rattle.sizing.specs.Effects.{has, unaryWide, binaryWide, beforeWidth, betweenWidth}
 use Rattle.sizing.specs.Steps.{State, emitsOf}
 use Rattle.sized.proofs.Walks.{after}
-use Rattle.sized.proofs.Left.{shape, Small, coded, Left, tried, Emitted, left-1, left-2}
+use Rattle.sized.proofs.Left.{shape, Small, Left, tried, Emitted, left-1, left-2}
 use Rattle.sized.proofs.Parts.{left-begun, left-part, left-joined, left-beside, three, left-choice, opened, left-select}
 use Rattle.sized.proofs.Items.{copies-over, cell-over, range-over, unary-over, binary-over, arm-over, choice-over, either-over, left-plain, left-port, left-held, left-sized}
 

@@ -1,37 +1,28 @@
 -- What the operations that are alike do, and the items that take nothing. Assumes nothing.
 use mathlib.Core.Path.{_≡_, refl, sym, ap, ap₂, _∙_, subst}
-use mathlib.Core.Bool.{Bool, true, false, not, _&&_, _||_, and-false}
-use mathlib.Core.List.{List, [], _∷_, _++_, append-assoc, append-nil}
-use Prim.Native.Nat.{ℕ, suc, _+_, _-_, _*_, _/_, _%_, _^_, _≤_, _<_, min, max}
+use mathlib.Core.Bool.{Bool, true, false, _&&_}
+use mathlib.Core.List.{List, [], _∷_, _++_, append-nil}
+use Prim.Native.Nat.{ℕ, _+_, _-_, _*_, _/_, _%_, _^_, _≤_, _<_, max}
 use native.Mathlib.Omega.{arith}
-use native.Mathlib.Nat.{mod-add-div', mod-eq-of-lt, div-eq-of-lt, lt-of-lt-of-le, le-trans}
-use lib.Dec.{eqb, leb, ltb}
+use native.Mathlib.Nat.{mod-add-div', mod-eq-of-lt, div-eq-of-lt, le-trans}
+use lib.Dec.{leb, ltb}
 use lib.Pow.{pow-mono}
-use lib.ListN.{length, getD, drop}
-use borrow.Author.Tests.{le-leb, lt-leb, leb-true, ltb-true, ltb-false, le-ltb}
+use lib.ListN.{getD}
+use borrow.Author.Tests.{leb-true, ltb-false, le-ltb}
 use Rattle.language.specs.Text.{earliest}
 use Rattle.language.specs.Parts.{each}
 use Rattle.language.specs.Values.{plainWidth, rangeWidth}
-use Rattle.language.specs.Sizes.{Extent, wide, faulty, one-part, two-parts, faultsOf, limited, used}
-use Rattle.words.specs.declared.Place.{Place}
-use Rattle.words.specs.declared.Place.the-variants.{At, Nowhere}
-use Rattle.words.specs.Found.{earlierOf, placeTold}
-use Rattle.plan.specs.declared.Item.{Item}
-use Rattle.plan.specs.declared.Item.the-variants.{Const, Port, Let as Kept}
-use Rattle.plan.specs.Items.{encode}
-use Rattle.planned.specs.PlanOf.{widthOf, constant}
-use Rattle.planned.specs.Formed.{Kind, whole, parts, arms}
-use Rattle.planned.proofs.Extents.{IsWide}
+use Rattle.language.specs.Sizes.{Extent, wide, faulty, faultsOf, used}
+use Rattle.words.specs.Found.{placeTold}
+use Rattle.plan.specs.declared.Item.the-variants.{Port, Let as Kept}
+use Rattle.planned.specs.PlanOf.{constant}
+use Rattle.planned.specs.Formed.{whole}
 use Rattle.settled.specs.Settled.{six, amount}
-use Rattle.sizing.specs.declared.Effect.{Effect}
-use Rattle.sizing.specs.declared.Emits.{Emits}
-use Rattle.sizing.specs.declared.Emits.the-variants.{Nothing, Item as Adds}
-use Rattle.sizing.specs.declared.Seen.{Seen}
-use Rattle.sizing.specs.Effects.{BITS, BIG, AMOUNT, PLAIN, COPIES, READ, CELL, HELD, RANGE, UNARY, BINARY, CHOICE, EITHER, ARM, soonerOf, has, givesOf, endsOf, testedOf, throughOf, unaryWide, binaryWide, bigEffect, sizedEffect, plainEffect, readEffect, usedEffect, copiesEffect, cellEffect, rangeEffect, unaryEffect, binaryEffect, choiceEffect, armEffect, effectOf}
-use Rattle.sizing.specs.Steps.{State, seenOf, one-if, emitsOf, heldOf, aroundOf, pick, endedOf, stepOf, walk}
-use Rattle.sized.proofs.Firsts.{told}
-use Rattle.sized.proofs.Walks.{Goes, goes-both, goes-six, after}
-use Rattle.sized.proofs.Left.{shape, Small, coded, Left, tried, applied, through-1, Over-1, through-2, Over-2}
+use Rattle.sizing.specs.declared.Emits.the-variants.{Item as Adds}
+use Rattle.sizing.specs.Effects.{BITS, BIG, AMOUNT, PLAIN, COPIES, READ, CELL, HELD, RANGE, UNARY, BINARY, CHOICE, EITHER, ARM, soonerOf, has, givesOf, endsOf, testedOf, unaryWide, binaryWide, bigEffect, sizedEffect, plainEffect, readEffect, usedEffect, copiesEffect, cellEffect, rangeEffect, unaryEffect, binaryEffect, choiceEffect, armEffect, effectOf}
+use Rattle.sizing.specs.Steps.{State, seenOf, one-if, emitsOf, heldOf, aroundOf, pick, endedOf, stepOf}
+use Rattle.sized.proofs.Walks.{goes-both, goes-six, after}
+use Rattle.sized.proofs.Left.{shape, coded, Left, tried, applied, through-1, Over-1, through-2, Over-2}
 use Rattle.sized.proofs.Parts.{chooses, Over-3}
 
 -- ---- over one, two and three expressions

@@ -1,20 +1,18 @@
 -- What the items of an expression leave: a width, a first byte, faults and code; and what each item makes of what its parts left. Assumes nothing.
-use mathlib.Core.Path.{_≡_, refl, sym, ap, ap₂, _∙_, subst}
-use mathlib.Core.Bool.{Bool, true, false, not, _&&_, _||_, and-false}
+use mathlib.Core.Path.{_≡_, refl, sym, ap, ap₂, _∙_}
+use mathlib.Core.Bool.{Bool, true, false, _&&_, and-false}
 use mathlib.Core.List.{List, [], _∷_, _++_, append-assoc, append-nil}
-use Prim.Native.Nat.{ℕ, suc, _+_, _-_, _*_, _≤_, _<_, min, max}
-use native.Mathlib.Omega.{arith}
-use lib.Dec.{eqb, leb, ltb}
-use lib.ListN.{length, getD, drop}
-use borrow.Author.Tests.{le-leb, lt-leb, leb-true, ne-eqb}
+use Prim.Native.Nat.{ℕ, _+_, _-_, _≤_, min}
+use lib.Dec.{leb}
+use lib.ListN.{drop}
+use borrow.Author.Tests.{le-leb}
 use Rattle.language.specs.Text.{earliest}
 use Rattle.language.specs.Parts.{each}
-use Rattle.language.specs.Sizes.{Extent, wide, faulty, one-part, two-parts, faultsOf, limited}
+use Rattle.language.specs.Sizes.{Extent, wide, faulty, one-part, two-parts, faultsOf}
+use Rattle.placed.proofs.Every.{each-append}
 use Rattle.words.specs.declared.Place.{Place}
-use Rattle.words.specs.declared.Place.the-variants.{At, Nowhere}
-use Rattle.words.specs.Found.{earlierOf, placeTold}
+use Rattle.words.specs.Found.{placeTold}
 use Rattle.plan.specs.declared.Item.{Item}
-use Rattle.plan.specs.declared.Item.the-variants.{Const, Port, Let, Cell, Range, Copies, Beside, Before, Between, Choice, Arm, Keep, Assign, Write, Bad}
 use Rattle.plan.specs.Items.{encode}
 use Rattle.planned.specs.PlanOf.{widthOf}
 use Rattle.planned.specs.Formed.{Kind, whole, parts, arms}
@@ -22,11 +20,9 @@ use Rattle.planned.proofs.Extents.{IsWide}
 use Rattle.settled.specs.Settled.{six}
 use Rattle.sizing.specs.declared.Effect.{Effect}
 use Rattle.sizing.specs.declared.Emits.{Emits}
-use Rattle.sizing.specs.declared.Emits.the-variants.{Nothing, Item as Adds}
-use Rattle.sizing.specs.declared.Seen.{Seen}
-use Rattle.sizing.specs.Effects.{COPIES, CELL, START, JOINED, soonerOf, has, givesOf, faultyOf, testedOf, throughOf, copiesEffect, cellEffect, begunEffect, joinedEffect, effectOf}
-use Rattle.sizing.specs.Steps.{State, seenOf, one-if, emitsOf, heldOf, aroundOf, pick, endedOf, stepOf, walk}
-use Rattle.sized.proofs.Firsts.{told, told-after}
+use Rattle.sizing.specs.Effects.{soonerOf, has, givesOf, faultyOf, testedOf, throughOf}
+use Rattle.sizing.specs.Steps.{State, one-if, emitsOf, stepOf}
+use Rattle.sized.proofs.Firsts.{told-after}
 use Rattle.sized.proofs.Walks.{Goes, goes-both, goes-six, after}
 
 -- an expression as it waits: by its width, or 99; the parts of a concatenation by at most 65
@@ -46,14 +42,7 @@ abbrev pub coded : List Item → List ℕ
 coded is = each encode is
 
 pub each-both : (a b : List Item) → coded (a ++ b) ≡ coded a ++ coded b
-unfolding each
-each-both [] b = refl
-each-both (i ∷ a) b = ap (λ (l : List ℕ). encode i ++ l) (each-both a b) ∙ sym (append-assoc (encode i) (coded a) (coded b))
-
--- code and an item more
-pub one-more : (c k : List ℕ) (is : List Item) (i : Item) → c ≡ k ++ coded is → c ++ encode i ≡ k ++ coded (is ++ (i ∷ []))
-unfolding each
-one-more c k is i e = ap (λ (l : List ℕ). l ++ encode i) e ∙ append-assoc k (coded is) (encode i) ∙ ap (λ (l : List ℕ). k ++ l) (sym (each-both is (i ∷ []) ∙ ap (λ (l : List ℕ). coded is ++ l) (append-nil (encode i))))
+each-both a b = each-append encode a b
 
 pub record Left (k : Kind) (x : Extent) (p : ℕ) (items : List ℕ) (is : List Item) (st : State) : Type 0 where
   pub c : List ℕ

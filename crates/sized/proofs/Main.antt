@@ -5,20 +5,19 @@ use Prim.Native.Nat.{ℕ, suc, _≤_}
 use native.Mathlib.Omega.{arith}
 use lib.ListN.{length}
 use Rattle.language.specs.Words.{Word}
-use Rattle.language.specs.Tree.{Rule, Group, Actor, Statement, spelledOf, memoryNames}
+use Rattle.language.specs.Tree.{Rule, Actor, Statement, spelledOf, memoryNames}
 use Rattle.language.specs.Parts.{each, wholes, statements}
-use Rattle.language.specs.Counts.{exprWords, rulesOf, valNames, tooMany}
+use Rattle.language.specs.Counts.{exprWords, rulesOf}
 use Rattle.language.specs.Widths.{portWidth, memoryWidth}
 use Rattle.language.specs.Sizes.{Setting, statementSizes, sizeFaults}
 use Rattle.placed.specs.Placed.{Every}
 use Rattle.placed.proofs.Every.{every-nil, every-map, every-both, every-each, each-append}
 use Rattle.planned.specs.PlanOf.{ruleCode}
-use Rattle.planned.specs.Formed.{FormedStatement, FormedRule, FormedGroup}
-use Rattle.planned.proofs.Rules.{FineStatement, valsIn}
+use Rattle.planned.specs.Formed.{FormedRule}
+use Rattle.planned.proofs.Rules.{valsIn}
 use Rattle.planned.proofs.Faultless.{fine-statement, few, few-vals}
 use Rattle.planned.proofs.Facts.{limit-facts, word-facts}
 use Rattle.settled.specs.Settled.{settledOf}
-use Rattle.sizing.specs.Effects.{soonerOf}
 use Rattle.sizing.specs.Steps.{State, walk, begin}
 use Rattle.sized.specs.Statement.{Measured, Sized}
 use Rattle.sized.proofs.Firsts.{told, sooner-none}

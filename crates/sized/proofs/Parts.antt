@@ -2,34 +2,32 @@
 use mathlib.Core.Path.{_≡_, refl, sym, ap, ap₂, _∙_, subst}
 use mathlib.Core.Bool.{Bool, true, false, not, _&&_, _||_, and-false}
 use mathlib.Core.List.{List, [], _∷_, _++_, append-assoc, append-nil}
-use Prim.Native.Nat.{ℕ, suc, _+_, _-_, _*_, _≤_, _<_, min, max}
+use Prim.Native.Nat.{ℕ, _+_, _-_, _≤_, min, max}
 use native.Mathlib.Omega.{arith}
 use native.Mathlib.Decide.{decLe}
-use lib.Dec.{eqb, leb, ltb}
-use lib.ListN.{length, getD, drop}
-use borrow.Author.Tests.{le-leb, lt-leb, leb-true, ne-eqb}
+use lib.Dec.{eqb, leb}
+use lib.ListN.{drop}
+use borrow.Author.Tests.{le-leb, lt-leb, ne-eqb}
 use Rattle.language.specs.Text.{earliest}
 use Rattle.language.specs.Parts.{each}
 use Rattle.language.specs.Sizes.{Extent, wide, faulty, one-part, two-parts, faultsOf, limited}
 use Rattle.words.specs.declared.Place.{Place}
-use Rattle.words.specs.declared.Place.the-variants.{At, Nowhere}
-use Rattle.words.specs.Found.{earlierOf, placeTold}
+use Rattle.words.specs.declared.Place.the-variants.{Nowhere}
+use Rattle.words.specs.Found.{placeTold}
 use Rattle.plan.specs.declared.Item.{Item}
-use Rattle.plan.specs.declared.Item.the-variants.{Const, Port, Let, Cell, Range, Copies, Beside, Before, Between, Choice, Arm, Keep, Assign, Write, Bad}
+use Rattle.plan.specs.declared.Item.the-variants.{Beside, Choice, Keep}
 use Rattle.plan.specs.Items.{encode}
 use Rattle.planned.specs.PlanOf.{widthOf}
 use Rattle.planned.specs.Formed.{Kind, whole, parts, arms}
-use Rattle.planned.proofs.Extents.{IsWide, chosenExtent}
+use Rattle.planned.proofs.Extents.{chosenExtent}
 use Rattle.settled.specs.Settled.{six}
 use Rattle.sizing.specs.declared.Effect.{Effect}
-use Rattle.sizing.specs.declared.Emits.{Emits}
 use Rattle.sizing.specs.declared.Emits.the-variants.{Nothing, Item as Adds}
-use Rattle.sizing.specs.declared.Seen.{Seen}
-use Rattle.sizing.specs.Effects.{START, JOINED, BESIDE, CHOICE, EITHER, SELECT, SELECTED, soonerOf, has, givesOf, faultyOf, testedOf, throughOf, begunEffect, joinedEffect, besideEffect, choiceEffect, selectEffect, selectedEffect, endsOf, effectOf}
-use Rattle.sizing.specs.Steps.{State, seenOf, one-if, emitsOf, heldOf, aroundOf, pick, endedOf, stepOf, walk}
+use Rattle.sizing.specs.Effects.{START, JOINED, BESIDE, SELECT, SELECTED, soonerOf, has, givesOf, faultyOf, testedOf, throughOf, begunEffect, joinedEffect, besideEffect, selectEffect, selectedEffect, endsOf, effectOf}
+use Rattle.sizing.specs.Steps.{State, seenOf, one-if, emitsOf, heldOf, aroundOf, pick, endedOf, stepOf}
 use Rattle.sized.proofs.Firsts.{told, told-after}
 use Rattle.sized.proofs.Walks.{Goes, goes-both, goes-six, after}
-use Rattle.sized.proofs.Left.{shape, Small, coded, Left, tried, applied, one-more, more, two, through-2, some-2, none-2, both-code, each-both}
+use Rattle.sized.proofs.Left.{shape, Small, coded, Left, tried, applied, two, through-2, some-2, none-2, both-code, each-both}
 
 -- ---- the same expression, which begins before
 
