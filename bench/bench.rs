@@ -521,7 +521,7 @@ fn items_fired(p: &[u32]) -> usize {
 
 fn measure(name: &str, p: &[u32], rng: &mut Rng, work: usize, rounds: usize) {
     let (n, items) = (p[1] as usize, items_fired(p));
-    let k = (work / (items + 60)).max(8);
+    let k = (work / (items + 60)).max(400);
     let t = tables(p, rng, k, false);
     assert_eq!(agree(p, &t) as usize, k);
     let (mut o, mut a) = (vec![0u64; n * k], vec![0u32; 2 * k]);
