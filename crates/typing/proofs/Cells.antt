@@ -92,13 +92,6 @@ last-two l n x y r e =
     let m : n - 1 - 1 ≡ n - 2 = omega arith in
     (omega (arith, a .0, b .0), ap (exactAt l) (sym m) ∙ b .1, a .1, ap (waiting l) (sym m) ∙ b .2)
 
--- a value that waits alone is the first
-pub only : (l : List ℕ) (n : ℕ) (x : Exact) → waiting l n ≡ x ∷ [] → exactAt l 0 ≡ x
-only l n x e =
-    let a = last l n x [] e in
-    let z : n - 1 ≡ 0 = sym (how-many l (n - 1)) ∙ ap length (a .2) in
-    ap (exactAt l) (sym z) ∙ a .1
-
 -- a node with its operands at hand does what its kind says
 pub turn-leaf : (ws : List ℕ) (k : ℕ) (st : List Exact) → k % 8 < 2 → turn ws k st ≡ leafOf ws k ∷ st
 unfolding turn

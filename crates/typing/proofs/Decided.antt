@@ -4,8 +4,9 @@ use mathlib.Core.Bool.{Bool, true, false}
 use mathlib.Core.List.{List}
 use Prim.Native.Nat.{ℕ}
 use native.Mathlib.Nat.{le-antisymm}
+use lib.ListN.{length}
 use lib.Seq.{ext-getD}
-use Rattle.typing.specs.Terms.{Term, TypeOf}
+use Rattle.typing.specs.Terms.{Term, TypeOf, Small}
 use Rattle.typing.specs.Walk.{Stands}
 use Rattle.typing.specs.Solved.{Answer}
 
@@ -17,6 +18,6 @@ one-answer ts false true ws vs a b = absurd (a .0 vs (b .solves))
 one-answer ts false false ws vs a b = (refl, a .1 ∙ sym (b .1))
 
 -- what is told of every type whose code stands there, where one does, is told of one result
-pub one-result : {A : Type 0} (f : Term → A) (l : List ℕ) (from end n : ℕ) → (t : Term) × Stands t l from end × TypeOf n t → (r s : A) → ((t : Term) → Stands t l from end → r ≡ f t)
-    → ((t : Term) → Stands t l from end → s ≡ f t) → r ≡ s
-one-result f l from end n g r s x y = x (g .0) (g .1) ∙ sym (y (g .0) (g .1))
+pub one-result : {A : Type 0} (f : Term → A) (ws l : List ℕ) (from end : ℕ) → Small ws → (t : Term) × Stands t l from end × TypeOf (length ws) t → (r s : A)
+    → ((t : Term) → Stands t l from end → TypeOf (length ws) t → Small ws → r ≡ f t) → ((t : Term) → Stands t l from end → TypeOf (length ws) t → Small ws → s ≡ f t) → r ≡ s
+one-result f ws l from end h g r s x y = x (g .0) (g .1) (g .2) h ∙ sym (y (g .0) (g .1) (g .2) h)

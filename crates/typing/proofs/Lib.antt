@@ -5,6 +5,7 @@ pub mod Grows
 pub mod Bounds
 pub mod Cells
 pub mod Walking
+pub mod Tested
 pub mod Progress
 pub mod Decided
 pub mod Rules

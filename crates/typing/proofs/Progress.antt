@@ -8,10 +8,11 @@ use native.Mathlib.Decide.{ℕ-discrete}
 use native.Mathlib.Numerals.{add-one}
 use native.Mathlib.Omega.{arith}
 use lib.Arith.{lt-of-le-ne}
+use lib.Dec.{lit≤}
 use lib.ListN.{length, getD, set, replicate, length-replicate}
 use lib.Seq.{getD-set-same, getD-set-other}
 use Rattle.language.specs.Types.{widthOf}
-use Rattle.typing.specs.Terms.{Term, number, valueAt, Fine, TypeOf}
+use Rattle.typing.specs.Terms.{Term, number, valueAt, Fine, TypeOf, Small}
 use Rattle.typing.specs.Walk.{Stands}
 use Rattle.typing.specs.Solved.{wanted, Solves, Lowest, Coded}
 use Rattle.typing.proofs.Grows.{Under, widths-grow}
@@ -116,14 +117,12 @@ module _ (ts : List Term) (code starts ends : List ℕ) (c : Coded ts code start
   pub in-range : (i : ℕ) → i < length starts → i < length ts
   in-range i h = subst (λ (k : ℕ). i < k) (c .count) h
 
-  pub asked : (n i : ℕ) → n ≡ length starts → i < length starts → (t : Term) × Stands t code (getD starts i 0) (getD ends i 0) × TypeOf n t
-  asked n i e h =
-      let l : i < length ts = in-range i h in
-      (getD ts i (number 0), c .each i l, subst (λ (k : ℕ). TypeOf k (getD ts i (number 0))) (sym (e ∙ c .count)) (c .right i l))
-
-  pub told : (ws : List ℕ) (i v : ℕ) → i < length starts → ((t : Term) → Stands t code (getD starts i 0) (getD ends i 0) → v ≡ widthOf (valueAt ws t)) → v ≡ wanted ts ws i
+  pub told : (ws : List ℕ) (i v : ℕ) → length ws ≡ length starts → ((j : ℕ) → getD ws j 0 ≤ 32) → i < length starts
+      → ((t : Term) → Stands t code (getD starts i 0) (getD ends i 0) → TypeOf (length ws) t → Small ws → v ≡ widthOf (valueAt ws t)) → v ≡ wanted ts ws i
   unfolding wanted
-  told ws i v h f = f (getD ts i (number 0)) (c .each i (in-range i h))
+  told ws i v e small h f =
+      let l : i < length ts = in-range i h in
+      f (getD ts i (number 0)) (c .each i l) (subst (λ (k : ℕ). TypeOf k (getD ts i (number 0))) (sym (e ∙ c .count)) (c .right i l)) (λ j. le-trans (small j) (lit≤ tt))
 
 pub begins : (starts ws : List ℕ) (n : ℕ) → ws ≡ replicate n 0 → n ≡ length starts → (length ws ≡ length starts) × ((j : ℕ) → getD ws j 0 ≤ 32) × ((ts : List Term) → Progress ts ws 0)
 begins starts ws n e l = (

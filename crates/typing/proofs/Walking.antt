@@ -11,8 +11,8 @@ use lib.Seq.{drop-cons}
 use Rattle.language.specs.declared.Exact.{Exact}
 use Rattle.language.specs.Types.{wholeOf}
 use Rattle.typing.specs.Terms.{Term, number, port, log, floor, ceil, plus, minus, greater, code, valueAt, logsIn, TypeOf}
-use Rattle.typing.specs.Walk.{part, leafOf, unaryOf, binaryOf, onLast, onLastTwo, turn, walk, Ready, Stands, Turned, exactAt, waiting}
-use Rattle.typing.proofs.Cells.{turn-leaf, only}
+use Rattle.typing.specs.Walk.{part, leafOf, unaryOf, binaryOf, onLast, onLastTwo, turn, walk, Ready}
+use Rattle.typing.proofs.Cells.{turn-leaf}
 use Rattle.typing.proofs.Bounds.{one-long, two-long, space, room}
 
 -- ---- one node of a part
@@ -122,34 +122,3 @@ module _ (ws : List ℕ) (small : (i : ℕ) → getD ws i 0 ≤ 65535) where
 
   pub safe-whole : (t : Term) → TypeOf (length ws) t → Safe ws (code t) []
   safe-whole t y = subst (λ (l : List ℕ). Safe ws l []) (append-nil (code t)) (safe-code t y [] [] (omega (arith, y .short)) tt)
-
--- ---- midway: what is left of the code is safe, and leads from the values that wait to where the whole leads
-
-pub record Midway (ws l : List ℕ) (from end i : ℕ) (cells : List ℕ) (n : ℕ) : Type 0 where
-  pub safe : Safe ws (part l i end) (waiting cells n)
-  pub leads : walk ws (part l i end) (waiting cells n) ≡ walk ws (part l from end) []
-  pub few : n ≤ 64
-  pub long : length cells ≡ 256
-
-module _ (ws l : List ℕ) (from end : ℕ) where
-  pub begins : ((i : ℕ) → getD ws i 0 ≤ 65535) → (t : Term) → Stands t l from end → TypeOf (length ws) t → (cells : List ℕ) → length cells ≡ 256 → Midway ws l from end from cells 0
-  unfolding waiting
-  begins small t s y cells e = record { safe = subst (λ (k : List ℕ). Safe ws k []) (sym (s .is)) (safe-whole ws small t y); leads = refl; few = lit≤ tt; long = e }
-
-  module _ (i : ℕ) (cells : List ℕ) (n : ℕ) (h : i < end) (g : end ≤ length l) (m : Midway ws l from end i cells n) where
-    pub ready : Ready ws (getD l i 0) (waiting cells n)
-    ready = subst (λ (k : List ℕ). Safe ws k (waiting cells n)) (part-more l i end h g) (m .safe) .0
-
-    pub onward : (next : List ℕ) (r : ℕ) → Turned ws (getD l i 0) cells n next r → Midway ws l from end (i + 1) next r
-    unfolding walk
-    onward next r t = record {
-      safe = subst (λ (st : List Exact). Safe ws (part l (i + 1) end) st) (sym (t .now-wait)) (subst (λ (k : List ℕ). Safe ws k (waiting cells n)) (part-more l i end h g) (m .safe) .1);
-      leads = ap (walk ws (part l (i + 1) end)) (t .now-wait) ∙ ap (λ (k : List ℕ). walk ws k (waiting cells n)) (sym (part-more l i end h g)) ∙ m .leads;
-      few = t .few;
-      long = t .long;
-    }
-
-  pub ends : (i : ℕ) (cells : List ℕ) (n : ℕ) → end ≤ i → Midway ws l from end i cells n → (t : Term) → Stands t l from end → exactAt cells 0 ≡ valueAt ws t
-  unfolding walk
-  ends i cells n h m t s =
-      only cells n (valueAt ws t) (ap (λ (k : List ℕ). walk ws k (waiting cells n)) (sym (part-none l i end h)) ∙ m .leads ∙ ap (λ (k : List ℕ). walk ws k []) (s .is) ∙ walk-whole ws t)

@@ -91,3 +91,7 @@ pub record TypeOf (n : ℕ) (t : Term) : Type 0 where
   pub fine : Fine n t
   pub two : logsIn t ≤ 2
   pub short : length (code t) ≤ limits .words
+
+-- widths that no type of these overflows with
+abbrev pub Small : List ℕ → Type 0
+Small ws = (i : ℕ) → getD ws i 0 ≤ limits .constant

@@ -1,6 +1,6 @@
 -- A code walked node by node with the values that wait, and these in cells of four numbers. Assumes nothing: these are definitions.
 use mathlib.Core.Path.{_≡_}
-use mathlib.Core.Bool.{true, false}
+use mathlib.Core.Bool.{Bool, true, false, _&&_, _||_}
 use mathlib.Core.List.{List, [], _∷_}
 use mathlib.Core.Option.{Option, none, some}
 use Prim.Native.Nat.{ℕ, zero, suc, _+_, _-_, _*_, _/_, _%_, _^_, _≤_, _<_}
@@ -78,6 +78,53 @@ pub data Ready (ws : List ℕ) (k : ℕ) (st : List Exact) : Type 0 where
   leaf : k % 8 < 2 → (k % 8 ≡ 1 → k / 8 < length ws) → length st < 64 → Ready ws k st
   unary : (x : Exact) (r : List Exact) → st ≡ x ∷ r → 2 ≤ k % 8 → k % 8 < 5 → Space x → Ready ws k st
   binary : (x y : Exact) (r : List Exact) → st ≡ y ∷ (x ∷ r) → 5 ≤ k % 8 → Room x y → Ready ws k st
+
+-- ---- the same as tests, and the value of any code
+
+unfoldable pub fits : ℕ → Bool
+fits n = ltb n (2 ^ 64)
+
+unfoldable pub hasSpace : Exact → Bool
+hasSpace x = ltb 0 (x .a) && ltb 0 (x .b) && fits (x .up + 64) && fits (x .down + 64)
+
+unfoldable pub sumsFit : Exact → Exact → Bool
+sumsFit x y = fits (x .up + y .up) && fits (x .down + y .down) && fits (x .up + y .down) && fits (x .down + y .up)
+
+unfoldable pub productsFit : Exact → Exact → Bool
+productsFit x y = fits (x .a * y .a) && fits (x .b * y .b) && fits (x .a * y .b) && fits (x .b * y .a)
+
+unfoldable pub hasRoom : Exact → Exact → Bool
+hasRoom x y = sumsFit x y && productsFit x y
+
+unfoldable pub lastHasSpace : List Exact → Bool
+lastHasSpace [] = false
+lastHasSpace (x ∷ r) = hasSpace x
+
+unfoldable pub lastTwoHaveRoom : List Exact → Bool
+lastTwoHaveRoom [] = false
+lastTwoHaveRoom (y ∷ []) = false
+lastTwoHaveRoom (y ∷ (x ∷ r)) = hasRoom x y
+
+unfoldable pub isReady : List ℕ → ℕ → List Exact → Bool
+isReady ws k st =
+    elim (ltb (k % 8) 2) [
+      | true ↦ ltb (length st) 64 && (eqb (k % 8) 0 || ltb (k / 8) (length ws))
+      | false ↦ elim (ltb (k % 8) 5) [ true ↦ lastHasSpace st | false ↦ lastTwoHaveRoom st ]
+    ]
+
+-- the value that waits alone, where floor takes it; else 0
+unfoldable pub alone : List Exact → Exact
+alone [] = wholeOf 0 0
+alone (x ∷ []) = elim (hasSpace x) [ true ↦ x | false ↦ wholeOf 0 0 ]
+alone (y ∷ (x ∷ r)) = wholeOf 0 0
+
+-- the value of any code after the values that wait: 0 from a node on that is not ready
+unfoldable pub valueFrom : List ℕ → List ℕ → List Exact → Exact
+valueFrom ws [] st = alone st
+valueFrom ws (k ∷ ks) st = elim (isReady ws k st) [ true ↦ valueFrom ws ks (turn ws k st) | false ↦ wholeOf 0 0 ]
+
+abbrev pub valueOf : List ℕ → List ℕ → Exact
+valueOf ws ks = valueFrom ws ks []
 
 -- ---- the values in cells, four to a value
 

@@ -10,9 +10,12 @@ ghost use lib.Dec.{leb};
 ghost use lib.ListN.{length, getD, replicate};
 ghost use Rattle.language.specs.Limits.{limits};
 ghost use Rattle.language.specs.Types.{wholeOf, logOf, plusOf, minusOf, notAbove, greaterOf, logDown, logUp, floorOf, ceilOf, widthOf, positionOf};
-ghost use Rattle.typing.specs.Terms.{Term, valueAt, TypeOf};
-ghost use Rattle.typing.specs.Walk.{Stands, leafOf, unaryOf, binaryOf, Space, Room, Ready, exactAt, stored, waiting, Turned, positioned};
+ghost use Rattle.typing.specs.Terms.{Term, valueAt, TypeOf, Small};
+ghost use Rattle.typing.specs.Walk.{part, Stands, leafOf, unaryOf, binaryOf, Space, Room, Ready, fits, hasSpace, sumsFit, productsFit, hasRoom, lastHasSpace, lastTwoHaveRoom, isReady, alone, valueOf, exactAt, stored, waiting, Turned, positioned};
 ghost use Rattle.typing.specs.Solved.{Coded, Answer};
+
+// The most that a number of 64 bits is.
+const MOST: u64 = 18446744073709551615;
 
 // A bit position as a type gives it; one below zero is outside.
 pub enum Position {
@@ -232,6 +235,88 @@ fn put(cells: &mut [u64; 256], k: usize, x: Exact) -> usize
     k + 1
 }
 
+fn sum_fits(a: u64, b: u64) -> bool
+    ensures { λ r. ⌜ r ≡ fits (a + b) ⌝ }
+{
+    a <= MOST - b
+}
+
+// By division: the product itself may not fit.
+fn product_fits(a: u64, b: u64) -> bool
+    ensures { λ r. ⌜ r ≡ fits (a * b) ⌝ }
+{
+    if b == 0 {
+        return true;
+    }
+    a <= MOST / b
+}
+
+fn has_space(x: Exact) -> bool
+    ensures { λ r. ⌜ r ≡ hasSpace x ⌝ }
+{
+    (0 < x.a) & (0 < x.b) & sum_fits(x.up, 64) & sum_fits(x.down, 64)
+}
+
+fn sums_fit(x: Exact, y: Exact) -> bool
+    ensures { λ r. ⌜ r ≡ sumsFit x y ⌝ }
+{
+    sum_fits(x.up, y.up)
+        & sum_fits(x.down, y.down)
+        & sum_fits(x.up, y.down)
+        & sum_fits(x.down, y.up)
+}
+
+fn products_fit(x: Exact, y: Exact) -> bool
+    ensures { λ r. ⌜ r ≡ productsFit x y ⌝ }
+{
+    product_fits(x.a, y.a)
+        & product_fits(x.b, y.b)
+        & product_fits(x.a, y.b)
+        & product_fits(x.b, y.a)
+}
+
+fn has_room(x: Exact, y: Exact) -> bool
+    ensures { λ r. ⌜ r ≡ hasRoom x y ⌝ }
+{
+    sums_fit(x, y) & products_fit(x, y)
+}
+
+fn last_has_space(cells: &[u64; 256], n: usize) -> bool
+    requires { ⌜ n ≤ 64 ⌝ }
+    ensures { λ r. ⌜ r ≡ lastHasSpace (waiting (now (cells .entry)) n) ⌝ }
+{
+    match n {
+        0 => false,
+        _ => has_space(taken(cells, n - 1)),
+    }
+}
+
+fn last_two_have_room(cells: &[u64; 256], n: usize) -> bool
+    requires { ⌜ n ≤ 64 ⌝ }
+    ensures { λ r. ⌜ r ≡ lastTwoHaveRoom (waiting (now (cells .entry)) n) ⌝ }
+{
+    match n {
+        0 | 1 => false,
+        _ => has_room(taken(cells, n - 2), taken(cells, n - 1)),
+    }
+}
+
+// Whether a node finds what it needs among the n values that wait, and its value has a place.
+fn ready(node: u32, ws: &[u32], cells: &[u64; 256], n: usize) -> bool
+    requires { ⌜ n ≤ 64 ⌝ }
+    ensures { λ r. ⌜ r ≡ isReady (now (ws .entry)) node (waiting (now (cells .entry)) n) ⌝ }
+{
+    let op = node % 8;
+    match op {
+        0 | 1 => {
+            let i = (node / 8) as usize;
+            (n < 64) & ((op == 0) | (i < ws.len()))
+        }
+        2 | 3 | 4 => last_has_space(cells, n),
+        _ => last_two_have_room(cells, n),
+    }
+}
+
 // One node: its operands, the last values of the n that wait, give way to its value. How many wait then.
 fn step(node: u32, ws: &[u32], cells: &mut [u64; 256], n: usize) -> usize
     requires { ⌜ Ready (now ws) node (waiting (now cells) n) ⌝ }
@@ -258,35 +343,52 @@ fn step(node: u32, ws: &[u32], cells: &mut [u64; 256], n: usize) -> usize
     }
 }
 
-// The value of the type whose code stands from one index to another, at the widths ws.
+// The value that waits alone, where floor takes it; else 0.
+fn only(cells: &[u64; 256], n: usize) -> Exact
+    ensures { λ r. ⌜ r ≡ alone (waiting (now (cells .entry)) n) ⌝ }
+{
+    if n != 1 {
+        return number(0);
+    }
+    let x = taken(cells, 0);
+    if has_space(x) {
+        return x;
+    }
+    number(0)
+}
+
+// The value of the type whose code stands from one index to another, at the widths ws; 0 where no type's code stands there.
 pub fn value_at(code: &[u32], from: usize, end: usize, ws: &[u32]) -> Exact
-    requires { ⌜ ((t : Term) × Stands t (now code) from end × TypeOf (length (now ws)) t) ⌝ }
-    requires { ⌜ ((i : ℕ) → getD (now ws) i 0 ≤ limits .constant) ⌝ }
-    ensures { λ r. ⌜ ((t : Term) → Stands t (now (code .entry)) from end → r ≡ valueAt (now (ws .entry)) t) ⌝ }
+    ensures { λ r. ⌜ ((t : Term) → Stands t (now (code .entry)) from end → TypeOf (length (now (ws .entry))) t → Small (now (ws .entry)) → r ≡ valueAt (now (ws .entry)) t) ⌝ }
+    ensures { λ r. ⌜ (end ≤ length (now (code .entry)) → r ≡ valueOf (now (ws .entry)) (part (now (code .entry)) from end)) ⌝ }
     ensures { λ r. ⌜ Space r ⌝ }
 {
+    if code.len() < end {
+        return number(0);
+    }
     let mut cells = [0u64; 256];
     let mut n = 0;
     let mut i = from;
     while i < end {
+        if !ready(code[i], ws, &cells, n) {
+            return number(0);
+        }
         n = step(code[i], ws, &mut cells, n);
         i += 1;
     }
-    taken(&cells, 0)
+    only(&cells, n)
 }
 
 pub fn width_at(code: &[u32], from: usize, end: usize, ws: &[u32]) -> u64
-    requires { ⌜ ((t : Term) × Stands t (now code) from end × TypeOf (length (now ws)) t) ⌝ }
-    requires { ⌜ ((i : ℕ) → getD (now ws) i 0 ≤ limits .constant) ⌝ }
-    ensures { λ r. ⌜ ((t : Term) → Stands t (now (code .entry)) from end → r ≡ widthOf (valueAt (now (ws .entry)) t)) ⌝ }
+    ensures { λ r. ⌜ ((t : Term) → Stands t (now (code .entry)) from end → TypeOf (length (now (ws .entry))) t → Small (now (ws .entry)) → r ≡ widthOf (valueAt (now (ws .entry)) t)) ⌝ }
+    ensures { λ r. ⌜ (end ≤ length (now (code .entry)) → r ≡ widthOf (valueOf (now (ws .entry)) (part (now (code .entry)) from end))) ⌝ }
 {
     width_of(value_at(code, from, end, ws))
 }
 
 pub fn position_at(code: &[u32], from: usize, end: usize, ws: &[u32]) -> Position
-    requires { ⌜ ((t : Term) × Stands t (now code) from end × TypeOf (length (now ws)) t) ⌝ }
-    requires { ⌜ ((i : ℕ) → getD (now ws) i 0 ≤ limits .constant) ⌝ }
-    ensures { λ r. ⌜ ((t : Term) → Stands t (now (code .entry)) from end → r ≡ positioned (positionOf (valueAt (now (ws .entry)) t))) ⌝ }
+    ensures { λ r. ⌜ ((t : Term) → Stands t (now (code .entry)) from end → TypeOf (length (now (ws .entry))) t → Small (now (ws .entry)) → r ≡ positioned (positionOf (valueAt (now (ws .entry)) t))) ⌝ }
+    ensures { λ r. ⌜ (end ≤ length (now (code .entry)) → r ≡ positioned (positionOf (valueOf (now (ws .entry)) (part (now (code .entry)) from end)))) ⌝ }
 {
     position_of(value_at(code, from, end, ws))
 }

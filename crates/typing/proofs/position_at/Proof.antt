@@ -14,7 +14,10 @@ position-of-requires : tie.Need-position-of-requires
 position-of-requires c κs = search needs
 
 returns : tie.Need-returns
-returns c = λ t s. c .position-of .ensures ∙ ap (λ (x : Exact). positioned (positionOf x)) (c .before .value-at .ensures .0 t s)
+returns c = (
+  λ t s y h. c .position-of .ensures ∙ ap (λ (x : Exact). positioned (positionOf x)) (c .before .value-at .ensures .0 t s y h),
+  λ h. c .position-of .ensures ∙ ap (λ (x : Exact). positioned (positionOf x)) (c .before .value-at .ensures .1 .0 h),
+)
 
 pub position-at-spec : {M : Type 1} → statement M
 position-at-spec = tie.close (tie.spec value-at-requires position-of-requires returns)

@@ -4,12 +4,10 @@ use mathlib.Core.Path.{_≡_, sym, ap, _∙_, subst}
 use Prim.Native.Nat.{ℕ, suc, _+_, _-_, _*_, _≤_, _<_}
 use native.Mathlib.Omega.{arith}
 use mathlib.Core.List.{List}
-use native.Mathlib.Nat.{le-trans}
-use lib.Dec.{lit≤}
 use lib.ListN.{length, getD, replicate, length-set, length-replicate}
 use Rattle.typing.specs.Terms.{Term}
 use Rattle.typing.specs.Solved.{Coded}
-use Rattle.typing.proofs.Progress.{Progress, slack, begins, in-range, asked, told, none, all-fine, same, change, less, measure-falls, small-set, finish}
+use Rattle.typing.proofs.Progress.{Progress, slack, begins, in-range, told, none, all-fine, same, change, less, measure-falls, small-set, finish}
 use Rattle.typing.proofs.solve.Statement.{statement}
 use Rattle.typing.proofs.solve.Tie as tie
 
@@ -43,14 +41,7 @@ shared-slice-read-width-at-2 c =
     omega (arith, s .pre .0 .1 .count, s .pre .0 .1 .counted)
 
 width-at-requires : tie.Need-width-at-requires Inv-loop μ-loop
-width-at-requires c κs =
-    let s = c .before .before .before .before .before .before .before .before .before .before .before .before .before in
-    let code = s .args .code .now in
-    let starts = s .args .starts .now in
-    let ends = s .args .ends .now in
-    let l = c .before .before .before .before .loop in
-    let h : l .i < length starts = omega arith in
-    (asked (s .pre .0 .0) code starts ends (s .pre .0 .1) (length (l .ws)) (l .i) (l .inv .0) h, λ j. le-trans (l .inv .1 j) (lit≤ tt))
+width-at-requires c κs = tt
 
 cast-if1 : tie.Need-cast-if1 Inv-loop μ-loop
 cast-if1 c = search needs
@@ -72,7 +63,7 @@ returns c =
     let h : l .i < length starts = omega arith in
     λ ts k. (
       none ts (all-fine ts code starts ends k) (l .ws) (l .i) (w .result) (in-range ts code starts ends k (l .i) h)
-          (told ts code starts ends k (l .ws) (l .i) (w .result) h (w .ensures)) (c .before .before .before .before .if1 .taken) (l .inv .2 ts k),
+          (told ts code starts ends k (l .ws) (l .i) (w .result) (l .inv .0) (l .inv .1) h (w .ensures .0)) (c .before .before .before .before .if1 .taken) (l .inv .2 ts k),
       c .before .before .fill2 .ensures ∙ ap (λ (n : ℕ). replicate {A = ℕ} n 0) (l .inv .0 ∙ k .count),
     )
 
@@ -100,7 +91,7 @@ loop-again c =
     let l = c .before .before .before .before .before .before .before .before .loop in
     let w = c .before .before .before .width-at in
     let h : l .i < length starts = omega arith in
-    (l .inv .0, l .inv .1, λ ts k. same ts (l .ws) (l .i) (sym (c .if2 .taken) ∙ told ts code starts ends k (l .ws) (l .i) (w .result) h (w .ensures)) (l .inv .2 ts k))
+    (l .inv .0, l .inv .1, λ ts k. same ts (l .ws) (l .i) (sym (c .if2 .taken) ∙ told ts code starts ends k (l .ws) (l .i) (w .result) (l .inv .0) (l .inv .1) h (w .ensures .0)) (l .inv .2 ts k))
 
 mul-ws : tie.Need-mul-ws Inv-loop μ-loop
 mul-ws c = omega arith
@@ -119,7 +110,7 @@ loop-less-2 c =
     let g = s .pre .0 in
     let h : l .i < length starts = omega arith in
     let hw : l .i < length (l .ws) = omega arith in
-    let e = told (g .0) code starts ends (g .1) (l .ws) (l .i) (w .result) h (w .ensures) in
+    let e = told (g .0) code starts ends (g .1) (l .ws) (l .i) (w .result) (l .inv .0) (l .inv .1) h (w .ensures .0) in
     measure-falls (l .ws) (length starts) (l .i) (w .result) _ hw (less (g .0) (l .ws) (l .i) (w .result) (in-range (g .0) code starts ends (g .1) (l .i) h) e (c .if2 .left) (l .inv .2 (g .0) (g .1))) (omega arith)
 
 loop-again-2 : tie.Need-loop-again-2 Inv-loop μ-loop
@@ -135,7 +126,7 @@ loop-again-2 c =
       length-set (l .ws) (l .i) (w .result) ∙ l .inv .0,
       small-set (l .ws) (l .i) (w .result) 32 hw (omega arith) (l .inv .1),
       λ ts k. change ts (all-fine ts code starts ends k) (l .ws) (l .i) (w .result) (in-range ts code starts ends k (l .i) h) hw
-          (told ts code starts ends k (l .ws) (l .i) (w .result) h (w .ensures)) (l .inv .2 ts k),
+          (told ts code starts ends k (l .ws) (l .i) (w .result) (l .inv .0) (l .inv .1) h (w .ensures .0)) (l .inv .2 ts k),
     )
 
 same-length-2 : tie.Need-same-length-2 Inv-loop μ-loop

@@ -12,7 +12,7 @@ width-of-requires : tie.Need-width-of-requires
 width-of-requires c κs = search needs
 
 returns : tie.Need-returns
-returns c = λ t s. c .width-of .ensures ∙ ap widthOf (c .before .value-at .ensures .0 t s)
+returns c = (λ t s y h. c .width-of .ensures ∙ ap widthOf (c .before .value-at .ensures .0 t s y h), λ h. c .width-of .ensures ∙ ap widthOf (c .before .value-at .ensures .1 .0 h))
 
 pub width-at-spec : {M : Type 1} → statement M
 width-at-spec = tie.close (tie.spec value-at-requires width-of-requires returns)
