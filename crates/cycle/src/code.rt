@@ -12,10 +12,8 @@ ghost use Rattle.cycle.specs.Fire.{Fires, ruleRun};
 ghost use Rattle.cycle.specs.Ready.{Buffered};
 ghost use Rattle.cycle.specs.Safety.{Given, Safe, Ran};
 use crate::steps::step;
-use plan::code_before;
-use plan::code_from;
+use plan::code_at;
 use plan::fetch_sound;
-use plan::length_at;
 use plan::place;
 
 // Some items from a place of the plan on; whether a cell is written twice by now.
@@ -75,8 +73,8 @@ fn run_rule(
     ensures { λ x. ⌜ ((qs : List (Change ℕ)) → Buffered (now (memory .entry)) (now (next .entry)) (now (marks .entry)) clash qs → Ran (now (memory .entry)) (now (outputs .exit)) (now (next .exit)) (now (marks .exit)) x (ruleRun (now (plan .entry)) (now (values .entry)) (now (memory .entry)) r (now (outputs .entry)) qs)) ⌝ }
 {
     let mut slots = [0u64; 48];
-    let from = code_from(plan) + 1 + code_before(plan, r);
-    let items = place(length_at(plan, r)) / 4;
+    let code = code_at(plan, r);
+    let items = place(code.length) / 4;
     run_items(
         plan,
         values,
@@ -86,7 +84,7 @@ fn run_rule(
         &mut slots,
         next,
         marks,
-        from,
+        code.from,
         items,
         clash,
     )

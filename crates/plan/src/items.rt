@@ -101,22 +101,27 @@ fn sound_item(op: u32, a: u32, b: u32, c: u32) -> Item
     requires { ⌜ (decode op a b c ≡ Bad → ⊥) ⌝ }
     ensures { λ r. ⌜ r ≡ decode op a b c ⌝ }
 {
+    // Operators, the most frequent, and constants are asked for apart: a branch is foreseen better than a jump among all.
+    if op % 8 != 0 {
+        return match op {
+            1 => Item::Port(a),
+            2 => Item::Let(a),
+            3 => Item::Cell(a, b, c),
+            4 => Item::Range(a, b),
+            5 => Item::Copies(a, b),
+            6 => Item::Beside(a),
+            7 => unary_item(a, b),
+            9 => Item::Choice,
+            10 => Item::Arm(a, b),
+            11 => Item::Keep(a, b),
+            12 => Item::Assign(a),
+            13 => Item::Write(a, b, c),
+            _ => Item::Bad,
+        };
+    }
     match op {
         0 => Item::Const(a, b, c),
-        1 => Item::Port(a),
-        2 => Item::Let(a),
-        3 => Item::Cell(a, b, c),
-        4 => Item::Range(a, b),
-        5 => Item::Copies(a, b),
-        6 => Item::Beside(a),
-        7 => unary_item(a, b),
-        8 => binary_item(a, b, c),
-        9 => Item::Choice,
-        10 => Item::Arm(a, b),
-        11 => Item::Keep(a, b),
-        12 => Item::Assign(a),
-        13 => Item::Write(a, b, c),
-        _ => Item::Bad,
+        _ => binary_item(a, b, c),
     }
 }
 

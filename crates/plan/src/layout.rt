@@ -113,6 +113,21 @@ pub fn group_at(plan: &[u32], g: u32) -> u32
     number(plan, groups_from(plan) + 1 + place(g))
 }
 
+// The same, of groups that begin at a place: they are looked for once.
+pub fn group_in(plan: &[u32], from: usize, g: u32) -> u32
+    requires { ⌜ (from ≡ groupsFrom (now plan)) × (from < 34359738368) ⌝ }
+    ensures { λ r. ⌜ r ≡ groupAt (now (plan .entry)) g ⌝ }
+{
+    number(plan, from + 1 + place(g))
+}
+
+pub fn groups_in(plan: &[u32], from: usize) -> u32
+    requires { ⌜ from ≡ groupsFrom (now plan) ⌝ }
+    ensures { λ r. ⌜ r ≡ groupCount (now (plan .entry)) ⌝ }
+{
+    number(plan, from)
+}
+
 // The rules of the first g groups.
 pub fn rules_before(plan: &[u32], g: u32) -> usize
     ensures { λ r. ⌜ (r ≡ rulesBefore (now (plan .entry)) g) × (r ≤ 4294967295 * g) ⌝ }
@@ -146,6 +161,22 @@ pub fn absent_at(plan: &[u32], r: u32) -> u32
     number(plan, rules_from(plan) + 2 + 3 * place(r))
 }
 
+// Both masks of a rule, of rules that begin at a place.
+pub struct Masks {
+    pub present: u32,
+    pub absent: u32,
+}
+
+pub fn masks_in(plan: &[u32], from: usize, r: u32) -> Masks
+    requires { ⌜ (from ≡ rulesFrom (now plan)) × (from < 68719476736) ⌝ }
+    ensures { λ x. ⌜ (x .present ≡ presentAt (now (plan .entry)) r) × (x .absent ≡ absentAt (now (plan .entry)) r) ⌝ }
+{
+    Masks {
+        present: number(plan, from + 1 + 3 * place(r)),
+        absent: number(plan, from + 2 + 3 * place(r)),
+    }
+}
+
 // The length of a rule's code.
 pub fn length_at(plan: &[u32], r: u32) -> u32
     ensures { λ x. ⌜ x ≡ lengthAt (now (plan .entry)) r ⌝ }
@@ -164,6 +195,25 @@ pub fn code_from(plan: &[u32]) -> usize
     ensures { λ r. ⌜ (r ≡ codeFrom (now (plan .entry))) × (r < 137438953472) ⌝ }
 {
     rules_from(plan) + 1 + 3 * place(rule_count(plan))
+}
+
+// A rule's code: where it begins, and its length.
+pub struct Stretch {
+    pub from: usize,
+    pub length: u32,
+}
+
+pub fn code_at(plan: &[u32], r: u32) -> Stretch
+    requires { ⌜ codeFrom (now plan) + 1 + codeBefore (now plan) r ≤ length (now plan) ⌝ }
+    ensures { λ x. ⌜ (x .from ≡ codeFrom (now (plan .entry)) + 1 + codeBefore (now (plan .entry)) r) × (x .length ≡ lengthAt (now (plan .entry)) r) ⌝ }
+{
+    let from = rules_from(plan);
+    let rules = place(number(plan, from));
+    let before = sum(plan, from + 3, 3, r);
+    Stretch {
+        from: from + 1 + 3 * rules + 1 + before,
+        length: number(plan, from + 3 + 3 * place(r)),
+    }
 }
 
 pub fn code_count(plan: &[u32]) -> u32

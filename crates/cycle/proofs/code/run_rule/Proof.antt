@@ -18,20 +18,8 @@ use borrow.Author.Needs.{needs}
 use Rattle.cycle.proofs.code.run_rule.Statement.{statement}
 use Rattle.cycle.proofs.code.run_rule.Tie as tie
 
-code-from-requires : tie.Need-code-from-requires
-code-from-requires c κs = search needs
-
-add-from : tie.Need-add-from
-add-from c = search needs
-
-code-before-requires : tie.Need-code-before-requires
-code-before-requires c κs = search needs
-
-add-from-2 : tie.Need-add-from-2
-add-from-2 c = search needs
-
-length-at-requires : tie.Need-length-at-requires
-length-at-requires c κs = search needs
+code-at-requires : tie.Need-code-at-requires
+code-at-requires c κs = let h = c .before .before .before .before .before .before .before .pre .0 .inside in search needs
 
 place-requires : tie.Need-place-requires
 place-requires c κs = search needs
@@ -40,7 +28,7 @@ slice-aggregate-run-items : tie.Need-slice-aggregate-run-items
 slice-aggregate-run-items c = search needs
 
 run-items-requires : tie.Need-run-items-requires
-run-items-requires c κs = let e : take (4 * (c .before .before .before .before .before .place .result / 4)) (drop (c .before .before .before .before .before .before .before .before .code-from .result + 1 + c .before .before .before .before .before .before .before .code-before .result) (c .before .before .before .before .before .before .before .before .before .before .before .before .before .before .before .before .args .plan .now)) ≡ codeAt (c .before .before .before .before .before .before .before .before .before .before .before .before .before .before .before .before .args .plan .now) (c .before .before .before .before .before .before .before .before .before .before .before .before .before .before .before .before .args .r) = code-found (c .before .before .before .before .before .before .before .before .before .before .before .before .before .before .before .before .args .plan .now) (c .before .before .before .before .before .before .before .before .before .before .before .before .before .before .before .before .args .r) (c .before .before .before .before .before .before .before .before .code-from .result + 1 + c .before .before .before .before .before .before .before .code-before .result) (c .before .before .before .before .before .place .result / 4) (c .before .before .before .before .before .before .before .before .before .before .before .before .before .before .before .before .pre .0 .whole) (ap₂ (λ (a b : ℕ). a + 1 + b) (c .before .before .before .before .before .before .before .before .code-from .ensures .0) (c .before .before .before .before .before .before .before .code-before .ensures .0)) (ap (λ (a : ℕ). a / 4) (c .before .before .before .before .before .place .ensures .0 ∙ c .before .before .before .before .before .before .length-at .ensures)) in (omega (arith, c .before .before .before .before .before .before .before .before .before .before .before .before .before .before .before .before .pre .0 .inside, c .before .before .before .before .before .place .ensures .0, c .before .before .before .before .before .before .length-at .ensures, c .before .before .before .before .before .before .before .before .code-from .ensures .0, c .before .before .before .before .before .before .before .code-before .ensures .0), c .before .before .before .before .before .before .before .before .before .before .before .before .before .before .before .before .pre .2, c .before .before .before .before .before .before .before .before .before .before .before .before .before .before .before .before .pre .3, c .before .before .before .before .before .before .before .before .before .before .before .before .before .before .before .before .pre .4, c .before .before .before .before .before .before .before .before .before .before .before .before .before .before .before .before .pre .5, (presentAt (c .before .before .before .before .before .before .before .before .before .before .before .before .before .before .before .before .args .plan .now) (c .before .before .before .before .before .before .before .before .before .before .before .before .before .before .before .before .args .r), c .before .before .before .before .before .before .before .before .before .before .before .before .before .before .before .before .pre .0 .taken, c .before .before .before .before .before .before .before .before .before .before .before .before .before .before .before .before .pre .0 .given, subst (λ (l : List ℕ). Safe (c .before .before .before .before .before .before .before .before .before .before .before .before .before .before .before .before .args .plan .now) (presentAt (c .before .before .before .before .before .before .before .before .before .before .before .before .before .before .before .before .args .plan .now) (c .before .before .before .before .before .before .before .before .before .before .before .before .before .before .before .before .args .r)) (c .before .before .before .before .before .before .before .before .before .before .before .before .before .before .before .before .pre .0 .taken) (decodeAll l) (state [] (replicate 48 0) (c .before .before .before .before .before .before .before .before .before .before .before .before .before .before .before .before .args .outputs .now) [])) (sym e) (fires-safe (c .before .before .before .before .before .before .before .before .before .before .before .before .before .before .before .before .args .plan .now) (c .before .before .before .before .before .before .before .before .before .before .before .before .before .before .before .before .args .values .now) (c .before .before .before .before .before .before .before .before .before .before .before .before .before .before .before .before .args .memory .now) (c .before .before .before .before .before .before .before .before .before .before .before .before .before .before .before .before .args .r) (c .before .before .before .before .before .before .before .before .before .before .before .before .before .before .before .before .args .outputs .now) (c .before .before .before .before .before .before .before .before .before .before .before .before .before .before .before .before .pre .0) (c .before .before .before .before .before .before .before .before .before .before .before .before .before .before .before .before .pre .1))))
+run-items-requires c κs = let e : take (4 * (c .before .before .before .before .before .place .result / 4)) (drop (c .before .before .before .before .before .before .code-at .result .from) (c .before .before .before .before .before .before .before .before .before .before .before .before .before .before .args .plan .now)) ≡ codeAt (c .before .before .before .before .before .before .before .before .before .before .before .before .before .before .args .plan .now) (c .before .before .before .before .before .before .before .before .before .before .before .before .before .before .args .r) = code-found (c .before .before .before .before .before .before .before .before .before .before .before .before .before .before .args .plan .now) (c .before .before .before .before .before .before .before .before .before .before .before .before .before .before .args .r) (c .before .before .before .before .before .before .code-at .result .from) (c .before .before .before .before .before .place .result / 4) (c .before .before .before .before .before .before .before .before .before .before .before .before .before .before .pre .0 .whole) (c .before .before .before .before .before .before .code-at .ensures .0) (ap (λ (a : ℕ). a / 4) (c .before .before .before .before .before .place .ensures .0 ∙ c .before .before .before .before .before .before .code-at .ensures .1)) in (omega (arith, c .before .before .before .before .before .before .before .before .before .before .before .before .before .before .pre .0 .inside, c .before .before .before .before .before .place .ensures .0, c .before .before .before .before .before .before .code-at .ensures .1, c .before .before .before .before .before .before .code-at .ensures .0), c .before .before .before .before .before .before .before .before .before .before .before .before .before .before .pre .2, c .before .before .before .before .before .before .before .before .before .before .before .before .before .before .pre .3, c .before .before .before .before .before .before .before .before .before .before .before .before .before .before .pre .4, c .before .before .before .before .before .before .before .before .before .before .before .before .before .before .pre .5, (presentAt (c .before .before .before .before .before .before .before .before .before .before .before .before .before .before .args .plan .now) (c .before .before .before .before .before .before .before .before .before .before .before .before .before .before .args .r), c .before .before .before .before .before .before .before .before .before .before .before .before .before .before .pre .0 .taken, c .before .before .before .before .before .before .before .before .before .before .before .before .before .before .pre .0 .given, subst (λ (l : List ℕ). Safe (c .before .before .before .before .before .before .before .before .before .before .before .before .before .before .args .plan .now) (presentAt (c .before .before .before .before .before .before .before .before .before .before .before .before .before .before .args .plan .now) (c .before .before .before .before .before .before .before .before .before .before .before .before .before .before .args .r)) (c .before .before .before .before .before .before .before .before .before .before .before .before .before .before .pre .0 .taken) (decodeAll l) (state [] (replicate 48 0) (c .before .before .before .before .before .before .before .before .before .before .before .before .before .before .args .outputs .now) [])) (sym e) (fires-safe (c .before .before .before .before .before .before .before .before .before .before .before .before .before .before .args .plan .now) (c .before .before .before .before .before .before .before .before .before .before .before .before .before .before .args .values .now) (c .before .before .before .before .before .before .before .before .before .before .before .before .before .before .args .memory .now) (c .before .before .before .before .before .before .before .before .before .before .before .before .before .before .args .r) (c .before .before .before .before .before .before .before .before .before .before .before .before .before .before .args .outputs .now) (c .before .before .before .before .before .before .before .before .before .before .before .before .before .before .pre .0) (c .before .before .before .before .before .before .before .before .before .before .before .before .before .before .pre .1))))
 
 same-length : tie.Need-same-length
 same-length c = search needs
@@ -56,9 +44,9 @@ same-length-4 c = search needs
 
 returns : tie.Need-returns
 unfolding ruleRun
-returns c = let e : take (4 * (c .before .before .before .before .before .before .before .before .before .before .before .before .before .before .before .place .result / 4)) (drop (c .before .before .before .before .before .before .before .before .before .before .before .before .before .before .before .before .before .before .code-from .result + 1 + c .before .before .before .before .before .before .before .before .before .before .before .before .before .before .before .before .before .code-before .result) (c .before .before .before .before .before .before .before .before .before .before .before .before .before .before .before .before .before .before .before .before .before .before .before .before .before .before .args .plan .now)) ≡ codeAt (c .before .before .before .before .before .before .before .before .before .before .before .before .before .before .before .before .before .before .before .before .before .before .before .before .before .before .args .plan .now) (c .before .before .before .before .before .before .before .before .before .before .before .before .before .before .before .before .before .before .before .before .before .before .before .before .before .before .args .r) = code-found (c .before .before .before .before .before .before .before .before .before .before .before .before .before .before .before .before .before .before .before .before .before .before .before .before .before .before .args .plan .now) (c .before .before .before .before .before .before .before .before .before .before .before .before .before .before .before .before .before .before .before .before .before .before .before .before .before .before .args .r) (c .before .before .before .before .before .before .before .before .before .before .before .before .before .before .before .before .before .before .code-from .result + 1 + c .before .before .before .before .before .before .before .before .before .before .before .before .before .before .before .before .before .code-before .result) (c .before .before .before .before .before .before .before .before .before .before .before .before .before .before .before .place .result / 4) (c .before .before .before .before .before .before .before .before .before .before .before .before .before .before .before .before .before .before .before .before .before .before .before .before .before .before .pre .0 .whole) (ap₂ (λ (a b : ℕ). a + 1 + b) (c .before .before .before .before .before .before .before .before .before .before .before .before .before .before .before .before .before .before .code-from .ensures .0) (c .before .before .before .before .before .before .before .before .before .before .before .before .before .before .before .before .before .code-before .ensures .0)) (ap (λ (a : ℕ). a / 4) (c .before .before .before .before .before .before .before .before .before .before .before .before .before .before .before .place .ensures .0 ∙ c .before .before .before .before .before .before .before .before .before .before .before .before .before .before .before .before .length-at .ensures)) in λ qs b. ran-as (c .before .before .before .before .before .before .before .before .before .run-items .ensures qs b) (ap (λ (l : List ℕ). execAll (c .before .before .before .before .before .before .before .before .before .before .before .before .before .before .before .before .before .before .before .before .before .before .before .before .before .before .args .values .now) (c .before .before .before .before .before .before .before .before .before .before .before .before .before .before .before .before .before .before .before .before .before .before .before .before .before .before .args .memory .now) (decodeAll l) (state [] (replicate 48 0) (c .before .before .before .before .before .before .before .before .before .before .before .before .before .before .before .before .before .before .before .before .before .before .before .before .before .before .args .outputs .now) qs)) e)
+returns c = let e : take (4 * (c .before .before .before .before .before .before .before .before .before .before .before .before .before .before .before .place .result / 4)) (drop (c .before .before .before .before .before .before .before .before .before .before .before .before .before .before .before .before .code-at .result .from) (c .before .before .before .before .before .before .before .before .before .before .before .before .before .before .before .before .before .before .before .before .before .before .before .before .args .plan .now)) ≡ codeAt (c .before .before .before .before .before .before .before .before .before .before .before .before .before .before .before .before .before .before .before .before .before .before .before .before .args .plan .now) (c .before .before .before .before .before .before .before .before .before .before .before .before .before .before .before .before .before .before .before .before .before .before .before .before .args .r) = code-found (c .before .before .before .before .before .before .before .before .before .before .before .before .before .before .before .before .before .before .before .before .before .before .before .before .args .plan .now) (c .before .before .before .before .before .before .before .before .before .before .before .before .before .before .before .before .before .before .before .before .before .before .before .before .args .r) (c .before .before .before .before .before .before .before .before .before .before .before .before .before .before .before .before .code-at .result .from) (c .before .before .before .before .before .before .before .before .before .before .before .before .before .before .before .place .result / 4) (c .before .before .before .before .before .before .before .before .before .before .before .before .before .before .before .before .before .before .before .before .before .before .before .before .pre .0 .whole) (c .before .before .before .before .before .before .before .before .before .before .before .before .before .before .before .before .code-at .ensures .0) (ap (λ (a : ℕ). a / 4) (c .before .before .before .before .before .before .before .before .before .before .before .before .before .before .before .place .ensures .0 ∙ c .before .before .before .before .before .before .before .before .before .before .before .before .before .before .before .before .code-at .ensures .1)) in λ qs b. ran-as (c .before .before .before .before .before .before .before .before .before .run-items .ensures qs b) (ap (λ (l : List ℕ). execAll (c .before .before .before .before .before .before .before .before .before .before .before .before .before .before .before .before .before .before .before .before .before .before .before .before .args .values .now) (c .before .before .before .before .before .before .before .before .before .before .before .before .before .before .before .before .before .before .before .before .before .before .before .before .args .memory .now) (decodeAll l) (state [] (replicate 48 0) (c .before .before .before .before .before .before .before .before .before .before .before .before .before .before .before .before .before .before .before .before .before .before .before .before .args .outputs .now) qs)) e)
 
 pub run-rule-spec : {M : Type 1} → statement M
 run-rule-spec =
-    tie.close (tie.spec code-from-requires add-from code-before-requires add-from-2 length-at-requires place-requires slice-aggregate-run-items
-    run-items-requires same-length same-length-2 same-length-3 same-length-4 returns)
+    tie.close (tie.spec code-at-requires place-requires slice-aggregate-run-items run-items-requires same-length same-length-2 same-length-3
+    same-length-4 returns)
