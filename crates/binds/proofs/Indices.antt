@@ -54,7 +54,7 @@ names-long btext t from zero = refl
 names-long btext t from (suc n) = ap suc (names-long btext t (suc from) n)
 
 module _ (s : List ℕ) where
-  index-most : (l : List (List ℕ)) → index l s ≤ length l
+  pub index-most : (l : List (List ℕ)) → index l s ≤ length l
   unfolding index
   index-most [] = omega arith
   index-most (n ∷ l) = go (same n s) (index-most l)
@@ -63,7 +63,7 @@ module _ (s : List ℕ) where
       go true h = let k : 0 ≤ suc (length l) = omega arith in k
       go false h = let k : suc (index l s) ≤ suc (length l) = omega arith in k
 
-  index-among : (l : List (List ℕ)) → among l s ≡ ltb (index l s) (length l)
+  pub index-among : (l : List (List ℕ)) → among l s ≡ ltb (index l s) (length l)
   unfolding index among
   index-among [] = refl
   index-among (n ∷ l) = go (same n s) (index-among l)

@@ -21,6 +21,6 @@ mod Resolved
 mod Short
 mod Small
 mod PlanSmall
-mod Grammar
-mod Read
+pub mod Grammar
+pub mod Read
 pub mod Theorems

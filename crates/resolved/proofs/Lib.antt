@@ -2,6 +2,6 @@
 mod Nodes
 mod Sought
 mod Named
-mod Whole
+pub mod Whole
 mod Turns
 mod Slots

@@ -60,19 +60,19 @@ none-code : someNodes [] ≡ code (number 0)
 unfolding someNodes code
 none-code = ap (λ (y : ℕ). y ∷ []) (number-node 0 (omega arith))
 
-every-all : {A : Type 0} (P : A → Type 0) (l : List A) → Every P l → All P l
+pub every-all : {A : Type 0} (P : A → Type 0) (l : List A) → Every P l → All P l
 every-all P [] h = tt
 every-all P (x ∷ l) h = (h .0, every-all P l (h .1))
 
 -- ---- row 7 leaves no more names than its limit
 
-not-too-many : (n : ℕ) (ns : List Name) → tooMany n ns ≡ [] → length ns ≤ n
+pub not-too-many : (n : ℕ) (ns : List Name) → tooMany n ns ≡ [] → length ns ≤ n
 unfolding tooMany each
 not-too-many n [] e = omega arith
 not-too-many zero (x ∷ ns) e = absurd (let z : _≡_ {A = ℕ} 0 1 = cc in omega arith)
 not-too-many (suc n) (x ∷ ns) e = let h = not-too-many n ns e in omega arith
 
-memory-names : (ms : List Memory) → length (memoryNames ms) ≡ length ms
+pub memory-names : (ms : List Memory) → length (memoryNames ms) ≡ length ms
 unfolding memoryNames
 memory-names [] = refl
 memory-names (m ∷ ms) = ap suc (memory-names ms)
@@ -130,7 +130,7 @@ module _ (text t : List ℕ) (n : ℕ) (btext table : List ℕ) (k m : ℕ) {ws 
   low-widths : (s : List ℕ) → valueIn (b .widths) s ≤ 65535
   low-widths s = let z = ranged btext (h .binds .reads) .widths s in omega arith
 
-  low-values : (s : List ℕ) → valueIn (b .values) s ≤ 65535
+  pub low-values : (s : List ℕ) → valueIn (b .values) s ≤ 65535
   low-values s = ranged btext (h .binds .reads) .values s
 
   right : (i : ℕ) → TypeOf (length (termsOf a b)) (termOf a b (getD (wants a b) i (exactly 0)))
@@ -199,11 +199,11 @@ module _ (text t : List ℕ) (n : ℕ) (btext table : List ℕ) (k m : ℕ) {ws 
   roomy : 3 * length (a .signature) + 3 ≤ length t
   roomy = let z = signed-fits text t n low a (h .tells .holds) (h .tells .long) in omega arith
 
-  few-ports : length (a .signature) ≤ 16
+  pub few-ports : length (a .signature) ≤ 16
   unfolding limitFaults
   few-ports = not-too-many 16 (a .signature) (none-left (tooMany 16 (a .signature)) _ (h .passed .limited))
 
-  few-memories : length (a .memories) ≤ 8
+  pub few-memories : length (a .memories) ≤ 8
   unfolding limitFaults
   few-memories = let z = memory-names (a .memories) in let f = not-too-many 8 (memoryNames (a .memories)) (none-left (tooMany 8 (memoryNames (a .memories))) _ (none-right (tooMany 16 (a .signature)) _ (h .passed .limited))) in omega arith
 
@@ -215,7 +215,7 @@ module _ (text t : List ℕ) (n : ℕ) (btext table : List ℕ) (k m : ℕ) {ws 
   memories-long [] = refl
   memories-long (x ∷ ms) = ap suc (memories-long ms)
 
-  wants-long : length (wants a b) ≡ length (a .signature) + length (a .memories)
+  pub wants-long : length (wants a b) ≡ length (a .signature) + length (a .memories)
   unfolding wants
   wants-long = length-append (each (λ (n : Name). portWant a b (n .spelled) ∷ []) (a .signature)) (each (λ (m : Memory). typeWant (m .type) ∷ []) (a .memories)) ∙ ap₂ (λ (x y : ℕ). x + y) (ports-long a b (a .signature)) (memories-long (a .memories))
 
@@ -262,6 +262,7 @@ module _ (text t : List ℕ) (n : ℕ) (btext table : List ℕ) (k m : ℕ) {ws 
           resolved = subst (λ (c : List ℕ). Least a b c) (sym (first xs before v)) (found a b xs l);
           zeros = λ z. absurd (let y : _≡_ {A = ℕ} 0 1 = cc in omega arith);
           rest = past xs before v;
+          fits = let n = length-append xs (drop all before) in let w = wants-long in let z = as-many a b in let y = v in omega arith;
         }
 
     no-widths : (xs before : List ℕ) {g : Bool} → g ≡ false → Answer g (termsOf a b) xs → Settles a b Nothing before (cellsOf xs before)
@@ -272,6 +273,7 @@ module _ (text t : List ℕ) (n : ℕ) (btext table : List ℕ) (k m : ℕ) {ws 
           resolved = not-found a b xs l;
           zeros = λ z. ap (λ (j : ℕ). take j (cellsOf xs before)) as-all ∙ first xs before v ∙ l .1 ∙ ap (λ (j : ℕ). replicate j 0) (as-many a b);
           rest = past xs before v;
+          fits = tt;
         }
 
   pub laid : {c : Counts} → c ≡ countsOver (tally 0 0) (take n t) → (cells starts ends : List ℕ) (i : ℕ) → i ≡ c .ports + c .memories → Slotted (env text t btext table k m (c .ports)) n cells starts ends i → length cells ≡ 1536 → length starts ≡ 24 → length ends ≡ 24 → Laid a b cells starts ends (c .ports + c .memories)

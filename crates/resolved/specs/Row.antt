@@ -2,7 +2,7 @@
 use mathlib.Core.Path.{_≡_}
 use mathlib.Core.List.{List, []}
 use mathlib.Core.Option.{Option, none, some}
-use Prim.Native.Nat.{ℕ}
+use Prim.Native.Nat.{ℕ, _≤_}
 use lib.ListN.{length, take, drop, replicate}
 use Rattle.language.specs.Words.{Word}
 use Rattle.language.specs.Tree.{Actor}
@@ -33,8 +33,14 @@ abbrev pub told : Answer → List ℕ → Option (List ℕ)
 told (Widths c) cells = some (take c cells)
 told Nothing cells = none
 
+-- there are as many cells
+abbrev pub Fits : Answer → List ℕ → Type 0
+Fits (Widths c) cells = c ≤ length cells
+Fits Nothing cells = Unit {0}
+
 -- what is answered, and what the cells held before and hold then: the widths or, where there are none, zeros; what stands past them is as it was
 pub record Settles (a : Actor) (b : Bindings) (r : Answer) (before cells : List ℕ) : Type 0 where
   pub resolved : Resolved a b (told r cells)
   pub zeros : r ≡ Nothing → take (length (wants a b)) cells ≡ replicate (length (wants a b)) 0
   pub rest : drop (length (wants a b)) cells ≡ drop (length (wants a b)) before
+  pub fits : Fits r cells

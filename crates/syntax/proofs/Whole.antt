@@ -409,10 +409,12 @@ module _ {text w w₁ : List ℕ} (F : Filed text w) (R : Remarked text [] (coun
       parsed-tree {t} e = record {
         answer = λ {ws} H. tree-said (length text) ws (judged-as q (verdict H));
         tape = λ H. e ∙ tree-after t (judged-as q (verdict H)) (let f = fits-tape in omega arith);
+        room = fits-tape;
       }
 
     pub parsed-fault : {i p : ℕ} {t : List ℕ} → r ≡ Bad i → p ≡ placeOr (length text) w₂ i → IsParsed text w t (Refused 5 p) t
     parsed-fault {i} {t = t} q e = record {
       answer = λ {ws} H. fault-said (length text) ws (judged-as q (verdict H)) (e ∙ word-place (T .held (held-again R H)) (length text) i);
       tape = λ H. fault-after t (judged-as q (verdict H));
+      room = tt;
     }

@@ -52,6 +52,11 @@ wordsAfter text t = elim (wordsOf text) [ badAt p ↦ t | words ws ↦ elim (ear
 unfoldable pub tapeAfter : List ℕ → List ℕ → List ℕ
 tapeAfter text t = elim (leb (length text) (limits .actor)) [ false ↦ t | true ↦ wordsAfter text t ]
 
+-- what is answered has room on the tape
+abbrev pub Roomy : Said → Type 0
+Roomy (Tape n) = n ≤ 24576
+Roomy (Refused n p) = Unit {0}
+
 -- ---- the contracts of the parts
 
 -- the words of a text in the table, with room for more; and their names marked, but for memories
@@ -106,3 +111,4 @@ placeOr end w i = elim (ltb i (count w)) [ true ↦ placeAt w i | false ↦ end 
 pub record IsParsed (text w t : List ℕ) (r : Said) (t′ : List ℕ) : Type 0 where
   pub answer : {ws : List Word} → Held text w ws → r ≡ treeSaid (length text) ws (parse ws)
   pub tape : {ws : List Word} → Held text w ws → t′ ≡ treeAfter (parse ws) t
+  pub room : Roomy r

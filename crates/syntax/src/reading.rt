@@ -16,7 +16,7 @@ ghost use lib.Seq.{sets};
 ghost use Rattle.syntax.specs.Marks.{count};
 ghost use Rattle.syntax.specs.Meets.{Room};
 ghost use Rattle.syntax.specs.Marking.{Taped};
-ghost use Rattle.syntax.specs.Read.{Filed, IsEnding, IsParsed, IsTree, Listed, Ready, placeOr, saidOf, tapeAfter, wordsAfter, wordsSaid};
+ghost use Rattle.syntax.specs.Read.{Filed, IsEnding, IsParsed, IsTree, Listed, Ready, Roomy, placeOr, saidOf, tapeAfter, wordsAfter, wordsSaid};
 
 const BYTES: usize = language::Actor::BYTES as usize;
 
@@ -101,6 +101,7 @@ fn listed(text: &[u8], words: &mut Table, n: u32, tape: &mut Tape) -> Said
     requires { ⌜ Listed (now text) (now words) n ⌝ }
     ensures answer { λ r. ⌜ r ≡ wordsSaid (now (text .entry)) ⌝ }
     ensures tape { λ r. ⌜ now (tape .exit) ≡ wordsAfter (now (text .entry)) (now (tape .entry)) ⌝ }
+    ensures room { λ r. ⌜ Roomy r ⌝ }
 {
     match words::left_out(words, wide(n)) {
         words::Place::At(p) => Said::Refused(4, p),
@@ -115,6 +116,7 @@ fn listed(text: &[u8], words: &mut Table, n: u32, tape: &mut Tape) -> Said
 pub fn read(text: &[u8], tape: &mut Tape) -> Said
     ensures answer { λ r. ⌜ r ≡ saidOf (now (text .entry)) ⌝ }
     ensures tape { λ r. ⌜ now (tape .exit) ≡ tapeAfter (now (text .entry)) (now (tape .entry)) ⌝ }
+    ensures room { λ r. ⌜ Roomy r ⌝ }
 {
     if BYTES < text.len() {
         return Said::Refused(1, language::Actor::BYTES);

@@ -7,7 +7,7 @@ use Rattle.syntax.proofs.reading.read.Statement.{statement}
 use Rattle.syntax.proofs.reading.read.Tie as tie
 
 returns : tie.Need-returns
-returns c = (long-said _ (c .if1 .taken), long-after _ _ (c .if1 .taken))
+returns c = (long-said _ (c .if1 .taken), (long-after _ _ (c .if1 .taken), tt))
 
 slice-aggregate-words : tie.Need-slice-aggregate-words
 slice-aggregate-words c = search needs
@@ -28,10 +28,10 @@ enum-told : tie.Need-enum-told
 enum-told c = search needs
 
 returns-2 : tie.Need-returns-2
-returns-2 c = (c .listed .ensures .0 ∙ short-said _ (omega arith), c .listed .ensures .1 ∙ short-after _ _ (omega arith))
+returns-2 c = (c .listed .ensures .0 ∙ short-said _ (omega arith), (c .listed .ensures .1 .0 ∙ short-after _ _ (omega arith), c .listed .ensures .1 .1))
 
 returns-3 : tie.Need-returns-3
-returns-3 c = let e = sym (c .before .p .given .1) ∙ c .before .before .before .before .words .ensures .0 in (bad-said _ _ (omega arith) (search needs) e ∙ short-said _ (omega arith), bad-after _ _ (omega arith) (search needs) _ e ∙ short-after _ _ (omega arith))
+returns-3 c = let e = sym (c .before .p .given .1) ∙ c .before .before .before .before .words .ensures .0 in (bad-said _ _ (omega arith) (search needs) e ∙ short-said _ (omega arith), (bad-after _ _ (omega arith) (search needs) _ e ∙ short-after _ _ (omega arith), tt))
 
 returns-4 : tie.Need-returns-4
 returns-4 c = absurd (found-some _ _ (omega arith) (search needs) (sym (c .enum-told .given .1) ∙ c .before .before .before .words .ensures .0))
