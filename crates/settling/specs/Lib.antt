@@ -1,0 +1,3 @@
+pub mod Lookup
+pub mod Walk
+pub mod Tables
