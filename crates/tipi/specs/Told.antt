@@ -1,0 +1,96 @@
+-- What `read` answers and writes, by the answer that document 01 gives. Assumes nothing: these are definitions.
+use mathlib.Core.Path.{_≡_}
+use mathlib.Core.Bool.{true, false}
+use mathlib.Core.List.{List, [], _∷_}
+use mathlib.Core.Option.{Option, some}
+use Prim.Native.Nat.{ℕ, _+_, _*_, _≤_}
+use lib.Dec.{leb}
+use lib.ListN.{length, take}
+use Rattle.language.specs.Limits.{limits}
+use Rattle.language.specs.Words.{Word}
+use Rattle.language.specs.Tree.{Actor}
+use Rattle.language.specs.Bindings.{Bindings}
+use Rattle.language.specs.Widths.{strangers, unsettled, Resolved, Least}
+use Rattle.language.specs.Sizes.{Setting}
+use Rattle.language.specs.Reading as Reading
+use Rattle.language.specs.Reading.{Early, stopped, through, refused, accepted, Reads, late}
+use Rattle.language.specs.declared.Text.{Text}
+use Rattle.language.specs.declared.Text.the-variants.{Actor as InActor}
+use Rattle.planned.specs.PlanOf.{planOf}
+use Rattle.known.specs.Row.{Tells}
+use Rattle.binds.specs.Lines.{Binds}
+use Rattle.resolved.specs.Row.{Passed, Asked}
+use Rattle.settled.specs.Settled.{settledOf}
+use Rattle.making.specs.Made.{tableAfter as tableWith}
+use Rattle.tipi.specs.declared.Answer.{Answer}
+use Rattle.tipi.specs.declared.Answer.the-variants.{Plan, Refused}
+use Rattle.tipi.specs.declared.rows.Verdict.{Verdict}
+use Rattle.tipi.specs.declared.rows.Verdict.the-variants.{Stopped, Through}
+
+-- row 13: "plan longer than the lent table", at 0; else "Reading writes the plan at the table's start, gives its length and leaves the rest."
+unfoldable pub madeOf : List ℕ → List ℕ → Answer
+madeOf p table = elim (leb (length p) (length table)) [ true ↦ Plan (length p) | false ↦ Refused 13 InActor 0 ]
+
+unfoldable pub answerOf : Reading.Answer → List ℕ → Answer
+answerOf (refused n t p) table = Refused n t p
+answerOf (accepted s) table = madeOf (planOf s) table
+
+unfoldable pub tableAfter : Reading.Answer → List ℕ → List ℕ
+tableAfter (refused n t p) table = table
+tableAfter (accepted s) table = tableWith (planOf s) table
+
+-- the answer and the table are those of what document 01 reads out of the two texts
+pub record Told (x : Reading.Answer) (r : Answer) (before after : List ℕ) : Type 0 where
+  pub answer : r ≡ answerOf x before
+  pub table : after ≡ tableAfter x before
+
+pub record Read (text bindings : List ℕ) (r : Answer) (before after : List ℕ) : Type 0 where
+  pub what : Reading.Answer
+  pub reads : Reads text bindings what
+  pub told : Told what r before after
+
+-- ---- of its parts
+
+-- what comes of rows 1 to 9: their refusal, or what rows 10 to 12 say
+pub data Follows : Early → Reading.Answer → Type 0 where
+  stops : {n p : ℕ} {t : Text} → Follows (stopped n t p) (refused n t p)
+  goes : {a : Actor} {b : Bindings} (ws : Option (List ℕ)) → Resolved a b ws → Follows (through a b) (late a b ws)
+
+pub record After (e : Early) (r : Answer) (before after : List ℕ) : Type 0 where
+  pub what : Reading.Answer
+  pub follows : Follows e what
+  pub told : Told what r before after
+
+-- rows 6 to 9
+unfoldable pub verdictOf : Early → Verdict
+verdictOf (stopped n t p) = Stopped n t p
+verdictOf (through a b) = Through
+
+-- a tape and a table that hold an actor and its bindings
+pub record Held (text t : List ℕ) (n : ℕ) (btext table : List ℕ) (k m : ℕ) (ws : List Word) (a : Actor) (b : Bindings) : Type 0 where
+  pub short : length text ≤ limits .actor
+  pub tells : Tells text t n ws a
+  pub binds : Binds btext table k m b
+
+-- with no fault of rows 6 to 9
+pub record Heard (text t : List ℕ) (n : ℕ) (btext table : List ℕ) (k m : ℕ) (ws : List Word) (a : Actor) (b : Bindings) : Type 0 where
+  pub asked : Asked text t n btext table k m ws a b
+  pub known : strangers a b ≡ []
+  pub settled : unsettled a b ≡ []
+
+-- the first items of a table are those of a setting with no fault before row 11
+pub record Settled (text t : List ℕ) (n : ℕ) (items : List ℕ) (many : ℕ) (ws : List Word) (s : Setting) : Type 0 where
+  pub tells : Tells text t n ws (s .actor)
+  pub passed : Passed ws (s .actor)
+  pub known : strangers (s .actor) (s .bindings) ≡ []
+  pub settled : unsettled (s .actor) (s .bindings) ≡ []
+  pub least : Least (s .actor) (s .bindings) (s .widths)
+  pub holds : take (6 * many) items ≡ settledOf s
+
+-- rows 11 and 12
+abbrev pub lateOf : Setting → Reading.Answer
+lateOf s = late (s .actor) (s .bindings) (some (s .widths))
+
+unfoldable pub sums : List ℕ → ℕ
+sums [] = 0
+sums (n ∷ l) = n + sums l

@@ -1,0 +1,92 @@
+// The simulator as its users meet it: `read` makes a plan of an actor's text with its bindings, `line` shows the line of a
+// fault, `cycle` and `run` run cycles from a plan. What comes in: texts, tables, masks and values, of any kind. What goes
+// out: an answer for each, with the plan, the memory and the outputs, or these as they stood.
+pub use cycle::cycle;
+pub use cycle::run;
+pub use lines::line;
+
+mod plans;
+mod rows;
+
+use language::Text;
+use plans::planned;
+use rows::Verdict;
+use rows::first;
+use syntax::Said;
+ghost use mathlib.Core.List.{List};
+ghost use Prim.Native.Nat.{_+_, _*_, _≤_};
+ghost use lib.ListN.{length};
+ghost use Rattle.language.specs.Limits.{limits};
+ghost use Rattle.language.specs.Words.{Word};
+ghost use Rattle.language.specs.Tree.{Actor};
+ghost use Rattle.language.specs.Bindings.{Bindings};
+ghost use Rattle.language.specs.Reading.{judged as Reading·judged};
+ghost use Rattle.language.specs.Reading.{worded as Reading·worded};
+ghost use Rattle.binds.specs.Lines.{Binds};
+ghost use Rattle.tipi.specs.Told.{Read, After, Held};
+
+// The plan's length, or a refusal with its number, its text and its place.
+pub enum Answer {
+    Plan(u32),
+    Refused(u32, Text, u32),
+}
+
+// Rows 6 to 13, of an actor that the grammar takes.
+fn judged(
+    text: &[u8],
+    tape: &[u32],
+    n: usize,
+    btext: &[u8],
+    table: &[u32],
+    k: usize,
+    m: usize,
+    plan: &mut [u32],
+) -> Answer
+    requires { ⌜ (n ≤ length (now tape)) × (n ≤ 24576) × (3 * (k + m) ≤ length (now table)) ⌝ }
+    requires { ⌜ ((ws : List Word) × (a : Actor) × (b : Bindings) × Held (now text) (now tape) n (now btext) (now table) k m ws a b) ⌝ }
+    ensures { λ r. ⌜ ((ws : List Word) (a : Actor) (b : Bindings) → Held (now (text .entry)) (now (tape .entry)) n (now (btext .entry)) (now (table .entry)) k m ws a b → After (Reading·judged ws a b) r (now (plan .entry)) (now (plan .exit))) ⌝ }
+{
+    match first(text, tape, n, btext, table, k, m) {
+        Verdict::Stopped(row, which, place) => Answer::Refused(row, which, place),
+        Verdict::Through => planned(text, tape, n, btext, table, k, m, plan),
+    }
+}
+
+// Rows 3 to 13, with the lines of the bindings in a table.
+fn worded(text: &[u8], btext: &[u8], table: &[u32], k: usize, m: usize, plan: &mut [u32]) -> Answer
+    requires { ⌜ (length (now text) ≤ limits .actor) × (3 * (k + m) ≤ length (now table)) ⌝ }
+    requires { ⌜ ((b : Bindings) × Binds (now btext) (now table) k m b) ⌝ }
+    ensures { λ r. ⌜ ((b : Bindings) → Binds (now (btext .entry)) (now (table .entry)) k m b → After (Reading·worded (now (text .entry)) b) r (now (plan .entry)) (now (plan .exit))) ⌝ }
+{
+    let mut tape = [0u32; 24576];
+    match syntax::read(text, &mut tape) {
+        Said::Tape(n) => judged(text, &tape, n as usize, btext, table, k, m, plan),
+        Said::Refused(row, place) => Answer::Refused(row, Text::Actor, place),
+    }
+}
+
+// An actor's text with its bindings, read into a plan at the start of a table.
+pub fn read(text: &[u8], bindings: &[u8], plan: &mut [u32]) -> Answer
+    ensures { λ r. ⌜ Read (now (text .entry)) (now (bindings .entry)) r (now (plan .entry)) (now (plan .exit)) ⌝ }
+{
+    if (language::Actor::BYTES as usize) < text.len() {
+        return Answer::Refused(1, Text::Actor, language::Actor::BYTES);
+    }
+    if (language::Bindings::BYTES as usize) < bindings.len() {
+        return Answer::Refused(1, Text::Bindings, language::Bindings::BYTES);
+    }
+    let mut table = [0u32; 96];
+    match bindings::read(bindings, &mut table) {
+        bindings::Answer::Bound(k, m) => worded(
+            text,
+            bindings,
+            &table,
+            k as usize,
+            m as usize,
+            plan,
+        ),
+        bindings::Answer::Wrong(p) => Answer::Refused(2, Text::Bindings, p),
+        // a text within its limit has room in this table
+        bindings::Answer::NoRoom => Answer::Refused(2, Text::Bindings, 0),
+    }
+}

@@ -1,0 +1,54 @@
+// Rows 6 to 9 of document 01, in order.
+use language::Text;
+use words::Place;
+ghost use mathlib.Core.Path.{_≡_};
+ghost use mathlib.Core.List.{List};
+ghost use Prim.Native.Nat.{_+_, _*_, _≤_};
+ghost use lib.ListN.{length};
+ghost use Rattle.language.specs.Words.{Word};
+ghost use Rattle.language.specs.Tree.{Actor};
+ghost use Rattle.language.specs.Bindings.{Bindings};
+ghost use Rattle.language.specs.Reading.{judged};
+ghost use Rattle.tipi.specs.Told.{verdictOf, Held};
+
+// The first fault, with its row, text and place, or none.
+pub enum Verdict {
+    Stopped(u32, Text, u32),
+    Through,
+}
+
+// The first fault of an actor that the grammar takes, by its names, limits, types and bindings.
+pub fn first(
+    text: &[u8],
+    tape: &[u32],
+    n: usize,
+    btext: &[u8],
+    table: &[u32],
+    k: usize,
+    m: usize,
+) -> Verdict
+    requires { ⌜ (n ≤ length (now tape)) × (3 * (k + m) ≤ length (now table)) ⌝ }
+    requires { ⌜ ((ws : List Word) × (a : Actor) × (b : Bindings) × Held (now text) (now tape) n (now btext) (now table) k m ws a b) ⌝ }
+    ensures { λ r. ⌜ ((ws : List Word) (a : Actor) (b : Bindings) → Held (now (text .entry)) (now (tape .entry)) n (now (btext .entry)) (now (table .entry)) k m ws a b → r ≡ verdictOf (judged ws a b)) ⌝ }
+{
+    match known::fault(text, tape, n) {
+        Place::At(p) => return Verdict::Stopped(6, Text::Actor, p),
+        Place::Nowhere => {}
+    }
+    match limits::fault(text, tape, n) {
+        Place::At(p) => return Verdict::Stopped(7, Text::Actor, p),
+        Place::Nowhere => {}
+    }
+    match type_rules::fault(tape, n) {
+        Place::At(p) => return Verdict::Stopped(8, Text::Actor, p),
+        Place::Nowhere => {}
+    }
+    match binds::strangers(text, tape, n, btext, table, k, m) {
+        Place::At(p) => return Verdict::Stopped(9, Text::Bindings, p),
+        Place::Nowhere => {}
+    }
+    match binds::unsettled(text, tape, n, btext, table, k, m) {
+        Place::At(p) => Verdict::Stopped(9, Text::Actor, p),
+        Place::Nowhere => Verdict::Through,
+    }
+}
