@@ -159,7 +159,8 @@ fn sound(p: &[u32]) -> Option<()> {
 
 // ---- its cycles
 
-struct Machine {
+// `APART`: operators and constants are asked for before the other items, as the proved machine does
+struct Machine<const APART: bool> {
     stack: [u64; 256],
     next: [u64; 256],
     marks: [bool; 256],
@@ -167,8 +168,8 @@ struct Machine {
     fired: [(usize, usize); 8],
 }
 
-impl Machine {
-    fn new() -> Machine {
+impl<const APART: bool> Machine<APART> {
+    fn new() -> Self {
         Machine { stack: [0; 256], next: [0; 256], marks: [false; 256], held: [0; 16], fired: [(0, 0); 8] }
     }
 
@@ -177,6 +178,10 @@ impl Machine {
         let (st, mut n, mut clash, mut slots) = (&mut self.stack, 0usize, false, [0u64; 48]);
         for item in code.chunks_exact(4) {
             let (a, b, c) = (item[1], item[2], item[3]);
+            if APART && item[0] % 8 == 0 {
+                if item[0] == 0 { st[n] = b as u64 | (c as u64) << 32; n += 1; } else { n -= 1; st[n - 1] = binary(a, b, c, st[n - 1], st[n]); }
+                continue;
+            }
             match item[0] {
                 0 => { st[n] = b as u64 | (c as u64) << 32; n += 1; }
                 1 => { st[n] = v[a as usize]; n += 1; }
@@ -478,7 +483,10 @@ fn agree(p: &[u32], t: &Tables) -> u32 {
     let (mut m1, mut o1, mut a1) = (t.memory.clone(), vec![7u64; n * k], vec![0u32; 2 * k]);
     let answer = proved_run(p, &t.masks, &t.values, &mut m1, &mut o1, &mut a1);
     let (mut m2, mut o2, mut a2) = (t.memory.clone(), vec![7u64; n * k], vec![0u32; 2 * k]);
-    assert_eq!(answer, Machine::new().run(p, &t.masks, &t.values, &mut m2, &mut o2, &mut a2));
+    assert_eq!(answer, Machine::<false>::new().run(p, &t.masks, &t.values, &mut m2, &mut o2, &mut a2));
+    assert!(m1 == m2 && o1 == o2 && a1 == a2);
+    let mut m2 = t.memory.clone();
+    assert_eq!(answer, Machine::<true>::new().run(p, &t.masks, &t.values, &mut m2, &mut o2, &mut a2));
     assert!(m1 == m2 && o1 == o2 && a1 == a2);
     if answer != 0 { return 0; }
     let (mut m3, mut o3) = (t.memory.clone(), vec![7u64; n * k]);
@@ -525,20 +533,22 @@ fn measure(name: &str, p: &[u32], rng: &mut Rng, work: usize, rounds: usize) {
     let t = tables(p, rng, k, false);
     assert_eq!(agree(p, &t) as usize, k);
     let (mut o, mut a) = (vec![0u64; n * k], vec![0u32; 2 * k]);
-    let (mut runs, mut rusts, mut cycles) = (vec![], vec![], vec![]);
-    let mut machine = Machine::new();
+    let (mut runs, mut rusts, mut aparts, mut cycles) = (vec![], vec![], vec![], vec![]);
+    let (mut machine, mut apart) = (Machine::<false>::new(), Machine::<true>::new());
     for _ in 0..rounds {
         let mut m = t.memory.clone();
         runs.push(timed(|| { proved_run(p, &t.masks, &t.values, &mut m, &mut o, &mut a); }));
         let mut m = t.memory.clone();
         rusts.push(timed(|| { machine.run(p, &t.masks, &t.values, &mut m, &mut o, &mut a); }));
         let mut m = t.memory.clone();
+        aparts.push(timed(|| { apart.run(p, &t.masks, &t.values, &mut m, &mut o, &mut a); }));
+        let mut m = t.memory.clone();
         cycles.push(timed(|| for j in 0..k { proved_cycle(p, t.masks[j], &t.values[n * j..n * j + n], &mut m, &mut o[n * j..n * j + n]); }));
     }
     let each = (k * items) as f64;
     println!(
-        "{name}: {} numbers, {items} items fire; run/Rust {}, cycle/run {}; ns an item: run {:.2}, Rust {:.2}, cycle {:.2}",
-        p.len(), ratios(&runs, &rusts), ratios(&cycles, &runs), best(&runs) / each, best(&rusts) / each, best(&cycles) / each);
+        "{name}: {} numbers, {items} items fire; run/Rust {}, run/Rust apart {}, cycle/run {}; ns an item: run {:.2}, Rust {:.2}, Rust apart {:.2}, cycle {:.2}",
+        p.len(), ratios(&runs, &rusts), ratios(&runs, &aparts), ratios(&cycles, &runs), best(&runs) / each, best(&rusts) / each, best(&aparts) / each, best(&cycles) / each);
 }
 
 // ---- how the cost grows with the length of a plan whose statements are drawn at random
