@@ -1,0 +1,150 @@
+-- Tests of numbers as the code makes them, and as the definitions have them. Assumes nothing.
+use mathlib.Core.Path.{_≡_, refl, sym, ap, _∙_, subst}
+use mathlib.Core.Bool.{Bool, true, false, _&&_}
+use mathlib.Core.List.{List, [], _∷_}
+use Prim.Native.Nat.{ℕ, zero, suc, _+_, _-_, _*_, _/_, _%_, _≤_, _<_, min}
+use native.Mathlib.Omega.{arith}
+use borrow.Author.Tests.{lt-ltb, le-ltb, le-leb, lt-leb, leb-true, leb-false, eq-eqb, ne-eqb}
+use lib.Dec.{eqb, leb, ltb}
+use lib.ListN.{length, set}
+use lib.Seq.{set-out}
+use Rattle.language.specs.Words.{digit}
+use Rattle.plan.specs.Layout.{portAt, portCount, memoryCount, cellsBefore}
+use Rattle.tipirun.specs.declared.state.Stage.{Stage}
+use Rattle.tipirun.specs.declared.state.State.{State}
+use Rattle.tipirun.specs.Reading.{startOf, wrongOf, grownOf, mostOf, takesOf, staysOf, longerOf, countByte, keptOf}
+use Rattle.tipirun.specs.Lines.{portsOf, cellsOf, inputFrom, nextInput, maskAfter, valuesAfter}
+
+-- ---- digits
+
+-- a digit more fits, without a sum that could pass 64 bits
+pub fits-as : (n d m : ℕ) → n ≤ m / 10 → leb d (m - n * 10) ≡ leb (n * 10 + d) m
+fits-as n d m h = go (leb d (m - n * 10)) refl
+  where
+    go : (x : Bool) → leb d (m - n * 10) ≡ x → x ≡ leb (n * 10 + d) m
+    go true e = let q = leb-true d (m - n * 10) e in sym (le-leb (n * 10 + d) m (omega arith))
+    go false e = let q = leb-false d (m - n * 10) e in sym (lt-leb (n * 10 + d) m (omega arith))
+
+pub fits-not : (n d m : ℕ) → m / 10 < n → false ≡ leb (n * 10 + d) m
+fits-not n d m h = sym (lt-leb (n * 10 + d) m (omega arith))
+
+pub most-mask : (p : ℕ) → p ≡ 0 → 4_294_967_295 ≡ mostOf p
+unfolding mostOf
+most-mask p e = sym (simp (mostOf, eq-eqb p 0 e))
+
+pub most-value : (p : ℕ) → (p ≡ 0 → ⊥) → 18_446_744_073_709_551_615 ≡ mostOf p
+unfolding mostOf
+most-value p h = sym (simp (mostOf, ne-eqb p 0 h))
+
+module _ (s : State) (b : ℕ) where
+  pub takes-none : digit b ≡ false → false ≡ takesOf s b
+  unfolding takesOf
+  takes-none e = sym (simp (takesOf, e))
+
+  pub takes-first : digit b ≡ true → s .begun ≡ false → true ≡ takesOf s b
+  unfolding takesOf
+  takes-first e f = sym (simp (takesOf, e, f))
+
+  pub takes-next : digit b ≡ true → s .begun ≡ true → ltb 0 (s .number) ≡ takesOf s b
+  unfolding takesOf
+  takes-next e f = sym (simp (takesOf, e, f))
+
+  pub stays-as : (d m : ℕ) → d ≡ b - 48 → m ≡ mostOf (s .port) → leb (s .number * 10 + d) m ≡ staysOf s b
+  unfolding staysOf
+  stays-as d m e f = ap (λ (x : ℕ). leb (s .number * 10 + x) m) e ∙ ap (leb (s .number * 10 + (b - 48))) f
+
+  pub longer-exact : (d : ℕ) → d ≡ b - 48 → leb (s .number * 10 + d) 18_446_744_073_709_551_615 ≡ true → grownOf s (s .number * 10 + d) ≡ longerOf s b
+  unfolding longerOf
+  longer-exact d e f = ap (grownOf s) (let h = leb-true (s .number * 10 + d) 18_446_744_073_709_551_615 f in omega arith)
+
+  pub longer-most : (d : ℕ) → d ≡ b - 48 → leb (s .number * 10 + d) 18_446_744_073_709_551_615 ≡ false → grownOf s 18_446_744_073_709_551_615 ≡ longerOf s b
+  unfolding longerOf
+  longer-most d e f = ap (grownOf s) (let h = leb-false (s .number * 10 + d) 18_446_744_073_709_551_615 f in omega arith)
+
+  module _ (g : Stage) where
+    pub count-takes : takesOf s b ≡ true → longerOf s b ≡ countByte g s b
+    unfolding countByte
+    count-takes e = sym (simp (countByte, e))
+
+    pub count-unbegun : takesOf s b ≡ false → s .begun ≡ false → wrongOf s ≡ countByte g s b
+    unfolding countByte
+    count-unbegun e f = sym (simp (countByte, e, f))
+
+    pub count-wrong : takesOf s b ≡ false → s .begun ≡ true → (b ≡ 10 → ⊥) → wrongOf s ≡ countByte g s b
+    unfolding countByte
+    count-wrong e f h = sym (simp (countByte, e, f, ne-eqb b 10 h))
+
+    pub count-ends : takesOf s b ≡ false → s .begun ≡ true → b ≡ 10 → startOf s g (s .number) ≡ countByte g s b
+    unfolding countByte
+    count-ends e f h = sym (simp (countByte, e, f, eq-eqb b 10 h))
+
+-- ---- bytes that are kept
+
+pub kept-in : (k n : ℕ) → k < n → k + 1 ≡ keptOf k n
+unfolding keptOf
+kept-in k n h = sym (simp (keptOf, lt-ltb k n h))
+
+pub kept-out : (k n : ℕ) → n ≤ k → k ≡ keptOf k n
+unfolding keptOf
+kept-out k n h = sym (simp (keptOf, le-ltb k n h))
+
+-- ---- ports
+
+pub ports-few : (p : List ℕ) (n : ℕ) → n ≡ portCount p → n < 16 → n ≡ portsOf p
+unfolding portsOf
+ports-few p n e h = omega arith
+
+pub ports-most : (p : List ℕ) (n : ℕ) → n ≡ portCount p → 16 ≤ n → 16 ≡ portsOf p
+unfolding portsOf
+ports-most p n e h = omega arith
+
+pub cells-as : (p : List ℕ) (m n r : ℕ) → m ≡ memoryCount p → n ≡ cellsBefore p m → r ≡ min n 256 → r ≡ cellsOf p
+unfolding cellsOf
+cells-as p m n r e f g = g ∙ ap (λ (x : ℕ). min x 256) (f ∙ ap (cellsBefore p) e)
+
+module _ (p : List ℕ) where
+  pub input-first : (n i : ℕ) → n ≡ portsOf p → inputFrom p (n - i) i ≡ nextInput p i
+  unfolding nextInput
+  input-first n i e = ap (λ (k : ℕ). inputFrom p (k - i) i) e
+
+  here : (k i : ℕ) → portAt p i < 256 → inputFrom p (suc k) i ≡ i
+  unfolding inputFrom
+  here k i h = simp (inputFrom, lt-ltb (portAt p i) 256 h)
+
+  past : (k i : ℕ) → 256 ≤ portAt p i → inputFrom p (suc k) i ≡ inputFrom p k (i + 1)
+  unfolding inputFrom
+  past k i h = simp (inputFrom, le-ltb (portAt p i) 256 h)
+
+  pub input-here : (n i q : ℕ) → i < n → q ≡ portAt p i → q < 256 → inputFrom p (n - i) i ≡ i
+  input-here n i q h e f = subst (λ (k : ℕ). inputFrom p k i ≡ i) (omega arith) (here (n - i - 1) i (subst (λ (x : ℕ). x < 256) e f))
+
+  pub input-past : (n i q : ℕ) → i < n → q ≡ portAt p i → 256 ≤ q → inputFrom p (n - i) i ≡ inputFrom p (n - (i + 1)) (i + 1)
+  input-past n i q h e f =
+      let a : n - i ≡ suc (n - (i + 1)) = omega arith in
+      ap (λ (k : ℕ). inputFrom p k i) a ∙ past (n - (i + 1)) i (subst (λ (x : ℕ). 256 ≤ x) e f)
+
+  pub input-none : (n i : ℕ) → n ≤ i → inputFrom p (n - i) i ≡ i
+  unfolding inputFrom
+  input-none n i h = let e : n - i ≡ 0 = omega arith in ap (λ (k : ℕ). inputFrom p k i) e
+
+-- ---- what a number of a line is kept as
+
+module _ (s : State) where
+  pub mask-new : s .port ≡ 0 → s .number % 4_294_967_296 ≡ maskAfter s
+  unfolding maskAfter
+  mask-new e = sym (simp (maskAfter, eq-eqb (s .port) 0 e))
+
+  pub mask-old : (s .port ≡ 0 → ⊥) → s .mask ≡ maskAfter s
+  unfolding maskAfter
+  mask-old h = sym (simp (maskAfter, ne-eqb (s .port) 0 h))
+
+  pub values-old : (v : List ℕ) → s .port ≡ 0 → v ≡ valuesAfter s v
+  unfolding valuesAfter
+  values-old v e = sym (simp (valuesAfter, eq-eqb (s .port) 0 e))
+
+  pub values-new : (v : List ℕ) (i : ℕ) → (s .port ≡ 0 → ⊥) → i ≡ s .port - 1 → set v i (s .number) ≡ valuesAfter s v
+  unfolding valuesAfter
+  values-new v i h e = ap (λ (k : ℕ). set v k (s .number)) e ∙ sym (simp (valuesAfter, ne-eqb (s .port) 0 h))
+
+  pub values-out : (v : List ℕ) (i : ℕ) → (s .port ≡ 0 → ⊥) → i ≡ s .port - 1 → length v ≤ i → v ≡ valuesAfter s v
+  values-out v i h e out = sym (set-out v i (s .number) out) ∙ values-new v i h e

@@ -1,0 +1,75 @@
+-- `feed` meets its contract: once the rest has run, all has. Assumes nothing.
+use borrow.Author.Needs.{needs}
+use mathlib.Core.Path.{_≡_, refl, sym, ap, _∙_}
+use mathlib.Core.List.{List, []}
+use Prim.Native.Nat.{ℕ, _+_, _-_, _*_, _≤_, _<_}
+use native.Mathlib.Omega.{arith}
+use lib.ListN.{length}
+use Rattle.tipirun.specs.Lines.{Roomy}
+use Rattle.tipirun.specs.Machine.{machine}
+use Rattle.tipirun.proofs.Bytewise.{Running, starts, more, all-fed}
+use Rattle.tipirun.proofs.steps.feed.Statement.{statement}
+use Rattle.tipirun.proofs.steps.feed.Tie as tie
+
+-- the tables are as long as they were
+record Long (a a₀ b b₀ p p₀ v v₀ o o₀ m m₀ out out₀ : List ℕ) : Type 0 where
+  actor : length a ≡ length a₀
+  bindings : length b ≡ length b₀
+  plan : length p ≡ length p₀
+  values : length v ≡ length v₀
+  outputs : length o ≡ length o₀
+  memory : length m ≡ length m₀
+  bytes : length out ≡ length out₀
+
+abbrev Inv-loop : tie.InvT-loop
+Inv-loop bytes actor₀ bindings₀ plan₀ values₀ outputs₀ memory₀ out₀ t₀ i₀ actor bindings plan values outputs memory out t i = (i ≤ length bytes) × Roomy values₀ outputs₀ memory₀ out₀ (t₀ .at + 378 * length bytes) × Long actor actor₀ bindings bindings₀ plan plan₀ values values₀ outputs outputs₀ memory memory₀ out out₀ × Running (machine t₀ actor₀ bindings₀ plan₀ values₀ outputs₀ memory₀ []) bytes out₀ (t₀ .at) i t actor bindings plan values outputs memory out
+
+abbrev μ-loop : tie.MeasureT-loop
+μ-loop bytes actor₀ bindings₀ plan₀ values₀ outputs₀ memory₀ out₀ t₀ i₀ actor bindings plan values outputs memory out t i = length bytes - i
+
+loop-holds : tie.Need-loop-holds Inv-loop μ-loop
+loop-holds c = (omega arith, c .before .before .before .before .before .before .before .before .pre, record { actor = refl; bindings = refl; plan = refl; values = refl; outputs = refl; memory = refl; bytes = refl }, starts _ _ _ _ _ _ _ _ _)
+
+shared-slice-read-step : tie.Need-shared-slice-read-step Inv-loop μ-loop
+shared-slice-read-step c = search needs
+
+step-requires : tie.Need-step-requires Inv-loop μ-loop
+step-requires c κs = record { ports = omega (arith, c .before .before .before .before .before .before .before .before .before .loop .inv .1 .ports, c .before .before .before .before .before .before .before .before .before .loop .inv .2 .values); slots = omega (arith, c .before .before .before .before .before .before .before .before .before .loop .inv .1 .slots, c .before .before .before .before .before .before .before .before .before .loop .inv .2 .outputs); cells = omega (arith, c .before .before .before .before .before .before .before .before .before .loop .inv .1 .cells, c .before .before .before .before .before .before .before .before .before .loop .inv .2 .memory); room = omega (arith, c .before .before .before .before .before .before .before .before .before .loop .inv .1 .room, c .before .before .before .before .before .before .before .before .before .loop .inv .2 .bytes, c .before .before .before .before .before .before .before .before .before .loop .inv .3 .place, c .before .before .before .before .before .before .before .before .before .loop .inv .3 .short, c .before .before .before .before .before .before .before .before .loop-test .taken) }
+
+add-i : tie.Need-add-i Inv-loop μ-loop
+add-i c = record { fits = omega (arith, c .before .before .before .before .before .before .before .before .before .before .before .before .before .before .before .before .before .before .before .before .before .before .before .loop-test .taken, c .before .before .before .before .before .before .before .before .before .before .before .before .before .before .before .before .before .before .before .before .before .before .before .before .before .before .before .before .before .before .before .before .before .good .1 .0 .0) }
+
+loop-less : tie.Need-loop-less Inv-loop μ-loop
+loop-less c = search needs
+
+loop-again : tie.Need-loop-again Inv-loop μ-loop
+loop-again c = (omega (arith, c .before .before .before .before .before .before .before .before .before .before .before .before .before .before .before .before .before .before .before .before .before .before .before .loop-test .taken), c .before .before .before .before .before .before .before .before .before .before .before .before .before .before .before .before .before .before .before .before .before .before .before .before .loop .inv .1, record { actor = c .before .before .before .before .before .before .before .before .before .before .before .before .before .before .step .kept .1 .1 .0 ∙ c .before .before .before .before .before .before .before .before .before .before .before .before .before .before .before .before .before .before .before .before .before .before .before .before .loop .inv .2 .actor; bindings = c .before .before .before .before .before .before .before .before .before .before .before .before .before .before .step .kept .1 .1 .1 .0 ∙ c .before .before .before .before .before .before .before .before .before .before .before .before .before .before .before .before .before .before .before .before .before .before .before .before .loop .inv .2 .bindings; plan = c .before .before .before .before .before .before .before .before .before .before .before .before .before .before .step .kept .1 .1 .1 .1 .0 ∙ c .before .before .before .before .before .before .before .before .before .before .before .before .before .before .before .before .before .before .before .before .before .before .before .before .loop .inv .2 .plan; values = c .before .before .before .before .before .before .before .before .before .before .before .before .before .before .step .kept .1 .1 .1 .1 .1 .0 ∙ c .before .before .before .before .before .before .before .before .before .before .before .before .before .before .before .before .before .before .before .before .before .before .before .before .loop .inv .2 .values; outputs = c .before .before .before .before .before .before .before .before .before .before .before .before .before .before .step .kept .1 .1 .1 .1 .1 .1 .0 ∙ c .before .before .before .before .before .before .before .before .before .before .before .before .before .before .before .before .before .before .before .before .before .before .before .before .loop .inv .2 .outputs; memory = c .before .before .before .before .before .before .before .before .before .before .before .before .before .before .step .kept .1 .1 .1 .1 .1 .1 .1 .0 ∙ c .before .before .before .before .before .before .before .before .before .before .before .before .before .before .before .before .before .before .before .before .before .before .before .before .loop .inv .2 .memory; bytes = c .before .before .before .before .before .before .before .before .before .before .before .before .before .before .step .kept .1 .1 .1 .1 .1 .1 .1 .1 .0 ∙ c .before .before .before .before .before .before .before .before .before .before .before .before .before .before .before .before .before .before .before .before .before .before .before .before .loop .inv .2 .bytes }, more _ _ _ _ _ _ _ _ _ _ _ _ _ _ _ _ _ _ _ _ _ (c .before .before .before .before .before .before .before .before .before .before .before .before .before .before .before .before .before .before .before .before .before .before .before .loop-test .taken) (c .before .before .before .before .before .before .before .before .before .before .before .before .before .before .before .before .before .before .before .before .before .before .before .before .loop .inv .3) (c .before .before .before .before .before .before .before .before .before .before .before .before .before .before .step .ensures))
+
+same-length : tie.Need-same-length Inv-loop μ-loop
+same-length c = c .before .loop .inv .2 .actor
+
+same-length-2 : tie.Need-same-length-2 Inv-loop μ-loop
+same-length-2 c = c .before .loop .inv .2 .bindings
+
+same-length-3 : tie.Need-same-length-3 Inv-loop μ-loop
+same-length-3 c = c .before .loop .inv .2 .plan
+
+same-length-4 : tie.Need-same-length-4 Inv-loop μ-loop
+same-length-4 c = c .before .loop .inv .2 .values
+
+same-length-5 : tie.Need-same-length-5 Inv-loop μ-loop
+same-length-5 c = c .before .loop .inv .2 .outputs
+
+same-length-6 : tie.Need-same-length-6 Inv-loop μ-loop
+same-length-6 c = c .before .loop .inv .2 .memory
+
+same-length-7 : tie.Need-same-length-7 Inv-loop μ-loop
+same-length-7 c = c .before .loop .inv .2 .bytes
+
+returns : tie.Need-returns Inv-loop μ-loop
+returns c = all-fed _ _ _ _ _ _ _ _ _ _ _ _ _ (c .loop-test .left) (c .before .loop .inv .0) (c .before .loop .inv .3)
+
+pub feed-spec : {M : Type 1} → statement M
+feed-spec =
+    tie.close (tie.spec Inv-loop μ-loop loop-holds shared-slice-read-step step-requires add-i loop-less loop-again same-length same-length-2
+    same-length-3 same-length-4 same-length-5 same-length-6 same-length-7 returns)

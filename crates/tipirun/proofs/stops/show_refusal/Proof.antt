@@ -1,0 +1,31 @@
+-- `show_refusal` meets its contract. Assumes nothing.
+use native.Mathlib.Omega.{arith}
+use Rattle.tipirun.proofs.Bytes.{both, named, line-two}
+use borrow.Author.Needs.{needs}
+use Rattle.tipirun.proofs.stops.show_refusal.Statement.{statement}
+use Rattle.tipirun.proofs.stops.show_refusal.Tie as tie
+
+wide-requires : tie.Need-wide-requires
+wide-requires c κs = search needs
+
+number-requires : tie.Need-number-requires
+number-requires c κs = search needs
+
+wide-requires-2 : tie.Need-wide-requires-2
+wide-requires-2 c κs = search needs
+
+next-number-requires : tie.Need-next-number-requires
+next-number-requires c κs = search needs
+
+put-requires : tie.Need-put-requires
+put-requires c κs = search needs
+
+same-length : tie.Need-same-length
+same-length c = search needs
+
+returns : tie.Need-returns
+returns c = named {m = 42} (line-two _ _ _ _ (c .before .before .before .before .before .before .before .before .before .before .before .before .wide .ensures) (c .before .before .before .before .before .before .before .wide2 .ensures)) (omega arith) (both (c .before .before .before .before .before .before .before .before .before .before .before .number .ensures) (both (c .before .before .before .before .before .before .next-number .ensures) (c .before .before .put .ensures)))
+
+pub show-refusal-spec : {M : Type 1} → statement M
+show-refusal-spec =
+    tie.close (tie.spec wide-requires number-requires wide-requires-2 next-number-requires put-requires same-length returns)

@@ -1,0 +1,162 @@
+-- The machine that the program is: what each byte does to the state and the tables and makes it write, and what the end of input does. Assumes nothing: these are definitions.
+use mathlib.Core.Path.{_≡_}
+use mathlib.Core.Bool.{Bool, true, false}
+use mathlib.Core.List.{List, [], _∷_, _++_}
+use Prim.Native.Nat.{ℕ, _+_, _*_, _≤_}
+use lib.Dec.{eqb, leb, ltb}
+use lib.ListN.{length, take, drop, getD, set, replicate}
+use lib.Seq.{sets}
+use Rattle.language.specs.Worked.{line, isBad}
+use Rattle.language.specs.Reading.{Answer, Reads}
+use Rattle.tipi.specs.Told.{answerOf, tableAfter}
+use Rattle.tipirun.specs.declared.state.Stage.{Stage}
+use Rattle.tipirun.specs.declared.state.Stage.the-variants.{ActorCount, Actor, BindingsCount, Bindings, CycleCount, Line, Through, Wrong, Stopped}
+use Rattle.tipirun.specs.declared.state.State.{State}
+use Rattle.tipirun.specs.Reading.{startOf, beginOf, countByte, actorByte, bindingsByte, judgedOf}
+use Rattle.tipirun.specs.Lines.{Lined, lineByte, cellsOf}
+
+-- the state with its tables, and what a byte made it write
+pub record Machine : Type 0 where
+  pub state : State
+  pub actor : List ℕ
+  pub bindings : List ℕ
+  pub plan : List ℕ
+  pub values : List ℕ
+  pub outputs : List ℕ
+  pub memory : List ℕ
+  pub wrote : List ℕ
+
+abbrev pub machine : State → List ℕ → List ℕ → List ℕ → List ℕ → List ℕ → List ℕ → List ℕ → Machine
+machine s a b p v o m w = record { state = s; actor = a; bindings = b; plan = p; values = v; outputs = o; memory = m; wrote = w }
+
+abbrev pub lined : Machine → Lined → Machine
+lined m x = machine (x .state) (m .actor) (m .bindings) (m .plan) (x .values) (x .outputs) (x .memory) (x .wrote)
+
+abbrev pub stated : Machine → State → Machine
+stated m s = machine s (m .actor) (m .bindings) (m .plan) (m .values) (m .outputs) (m .memory) []
+
+-- ---- a byte at each stage
+
+unfoldable pub movedAt : Stage → Machine → ℕ → Machine
+movedAt ActorCount m b = stated m (countByte Actor (m .state) b)
+movedAt Actor m b = machine (actorByte (m .state) (length (m .actor))) (set (m .actor) (m .state .actor) b) (m .bindings) (m .plan) (m .values) (m .outputs) (m .memory) []
+movedAt BindingsCount m b = stated m (countByte Bindings (m .state) b)
+movedAt Bindings m b = machine (bindingsByte (m .state) (length (m .bindings))) (m .actor) (set (m .bindings) (m .state .bindings) b) (m .plan) (m .values) (m .outputs) (m .memory) []
+movedAt CycleCount m b = stated m (countByte Line (m .state) b)
+movedAt Line m b = lined m (lineByte (m .state) b (m .plan) (m .values) (m .outputs) (m .memory))
+movedAt Through m b = stated m (m .state)
+movedAt Wrong m b = stated m (m .state)
+movedAt (Stopped n p) m b = stated m (m .state)
+
+unfoldable pub movedOf : Machine → ℕ → Machine
+movedOf m b = movedAt (m .state .stage) m b
+
+-- ---- a stage of which nothing is to come is over; x is what the two texts are read as
+
+unfoldable pub passedAt : Answer → Stage → State → List ℕ → State
+passedAt x ActorCount s l = s
+passedAt x Actor s l = startOf s BindingsCount 0
+passedAt x BindingsCount s l = s
+passedAt x Bindings s l = judgedOf (answerOf x l) s
+passedAt x CycleCount s l = s
+passedAt x Line s l = startOf s Through 0
+passedAt x Through s l = s
+passedAt x Wrong s l = s
+passedAt x (Stopped r p) s l = s
+
+-- `l` is the table of the plan
+unfoldable pub passedOf : Answer → State → List ℕ → State
+passedOf x s l = elim (ltb 0 (s .left)) [ true ↦ s | false ↦ passedAt x (s .stage) s l ]
+
+-- both texts are whole, and are read now
+abbrev pub atBindings : Stage → Bool
+atBindings ActorCount = false
+atBindings Actor = false
+atBindings BindingsCount = false
+atBindings Bindings = true
+atBindings CycleCount = false
+atBindings Line = false
+atBindings Through = false
+atBindings Wrong = false
+atBindings (Stopped n p) = false
+
+unfoldable pub whole : State → Bool
+whole s = elim (ltb 0 (s .left)) [ true ↦ false | false ↦ atBindings (s .stage) ]
+
+unfoldable pub planPassed : Answer → State → List ℕ → List ℕ
+planPassed x s l = elim (whole s) [ true ↦ tableAfter x l | false ↦ l ]
+
+-- x is what the texts are read as, if they are read now
+pub record Judges (x : Answer) (s : State) (actor bindings : List ℕ) : Type 0 where
+  pub read : whole s ≡ true → Reads (take (s .actor) actor) (take (s .bindings) bindings) x
+
+-- what a state at which nothing is to come goes on with, and the table of the plan
+pub record Passed (s : State) (actor bindings plan : List ℕ) (r : State) (after : List ℕ) : Type 0 where
+  pub what : Answer
+  pub judges : Judges what s actor bindings
+  pub stands : r ≡ passedOf what s plan
+  pub table : after ≡ planPassed what s plan
+
+-- ---- one byte, and some bytes
+
+unfoldable pub passedBy : Answer → Machine → Machine
+passedBy x t = machine (passedOf x (t .state) (t .plan)) (t .actor) (t .bindings) (planPassed x (t .state) (t .plan)) (t .values) (t .outputs) (t .memory) (t .wrote)
+
+-- t is what a byte makes of m
+pub record Stepped (m : Machine) (b : ℕ) (t : Machine) : Type 0 where
+  pub what : Answer
+  pub judges : Judges what (movedOf m b .state) (movedOf m b .actor) (movedOf m b .bindings)
+  pub makes : passedBy what (movedOf m b) ≡ t
+
+-- what was written is written; and with what was written before
+abbrev pub unwritten : Machine → Machine
+unwritten m = machine (m .state) (m .actor) (m .bindings) (m .plan) (m .values) (m .outputs) (m .memory) []
+
+abbrev pub preceded : List ℕ → Machine → Machine
+preceded w m = machine (m .state) (m .actor) (m .bindings) (m .plan) (m .values) (m .outputs) (m .memory) (w ++ m .wrote)
+
+-- r is what some bytes make of m, with all that is written on the way
+pub data Runs : Machine → List ℕ → Machine → Type 0 where
+  stays : {m : Machine} → Runs m [] (unwritten m)
+  goes : {m t r : Machine} {b : ℕ} {bs : List ℕ} → Stepped m b t → Runs (unwritten t) bs r → Runs m (b ∷ bs) (preceded (t .wrote) r)
+
+-- the tables as a function leaves them, and the bytes that wait to be written
+pub record Stands (x : Machine) (old : List ℕ) (at most : ℕ) (r : State) (actor bindings plan values outputs memory out : List ℕ) : Type 0 where
+  pub tables : machine r actor bindings plan values outputs memory (x .wrote) ≡ x
+  pub bytes : out ≡ sets old at (x .wrote)
+  pub place : r .at ≡ at + length (x .wrote)
+  pub short : length (x .wrote) ≤ most
+
+pub record Steps (m : Machine) (b : ℕ) (old : List ℕ) (at : ℕ) (r : State) (actor bindings plan values outputs memory out : List ℕ) : Type 0 where
+  pub to : Machine
+  pub stepped : Stepped m b to
+  pub stands : Stands to old at 378 r actor bindings plan values outputs memory out
+
+pub record Feeds (m : Machine) (bytes old : List ℕ) (at : ℕ) (r : State) (actor bindings plan values outputs memory out : List ℕ) : Type 0 where
+  pub to : Machine
+  pub runs : Runs m bytes to
+  pub stands : Stands to old at (378 * length bytes) r actor bindings plan values outputs memory out
+
+-- ---- the end: "input not in this form `bad`", "number and place on one line", "then all cells on one line"
+
+abbrev pub endedAt : Stage → Machine → List ℕ
+endedAt ActorCount m = isBad
+endedAt Actor m = isBad
+endedAt BindingsCount m = isBad
+endedAt Bindings m = isBad
+endedAt CycleCount m = isBad
+endedAt Line m = isBad
+endedAt Through m = line (take (cellsOf (take (m .state .plan) (m .plan))) (m .memory))
+endedAt Wrong m = isBad
+endedAt (Stopped n p) m = line (n ∷ p ∷ [])
+
+unfoldable pub endedOf : Machine → List ℕ
+endedOf m = endedAt (m .state .stage) m
+
+-- "memory starts at zeros"
+unfoldable pub started : Machine
+started = machine beginOf (replicate 8_193 0) (replicate 2_049 0) (replicate 16_384 0) (replicate 16 0) (replicate 16 0) (replicate 256 0) []
+
+-- all that is written for an input
+pub data Prints (input : List ℕ) : List ℕ → Type 0 where
+  prints : {r : Machine} → Runs started input r → Prints input (r .wrote ++ endedOf r)

@@ -1,0 +1,204 @@
+// A cycle's line: its numbers, the cycle, and the line that is written for it.
+ghost use mathlib.Core.Path.{_≡_};
+ghost use Prim.Native.Nat.{_+_, _*_, _≤_};
+ghost use lib.ListN.{length};
+ghost use Rattle.tipirun.specs.Written.{Wrote, blanked};
+ghost use Rattle.tipirun.specs.Lines.{portsOf, cellsOf, nextInput, outputOf, outputsFrom, shownOf, maskAfter, valuesAfter, turnedOf, numberEnds, lineByte, Left, Roomy};
+use crate::numbers::longer;
+use crate::numbers::next_number;
+use crate::numbers::number;
+use crate::numbers::put;
+use crate::numbers::takes_in_line;
+use crate::numbers::wide;
+use crate::state::Stage;
+use crate::state::State;
+use crate::state::at_port;
+use crate::state::least;
+use crate::state::less;
+use crate::state::wrong;
+use plan::cells_before;
+use plan::memory_count;
+use plan::place;
+use plan::port_at;
+use plan::port_count;
+
+const OUTPUT: u32 = 256;
+
+// The ports of the plan, at most 16.
+fn ports(plan: &[u32]) -> u32
+    ensures { λ r. ⌜ (r ≡ portsOf (now (plan .entry))) × (r ≤ 16) ⌝ }
+{
+    let n = port_count(plan);
+    if n < 16 { n } else { 16 }
+}
+
+// The cells of the plan, at most 256.
+pub fn cells(plan: &[u32]) -> usize
+    ensures { λ r. ⌜ (r ≡ cellsOf (now (plan .entry))) × (r ≤ 256) ⌝ }
+{
+    least(cells_before(plan, memory_count(plan)), 256)
+}
+
+// The first input from a port on, if there is one; else what is not below the number of ports.
+fn next_input(plan: &[u32], from: u32) -> u32
+    ensures { λ r. ⌜ r ≡ nextInput (now (plan .entry)) from ⌝ }
+{
+    let n = ports(plan);
+    let mut i = from;
+    while i < n {
+        if port_at(plan, i) < OUTPUT {
+            return i;
+        }
+        i += 1;
+    }
+    i
+}
+
+// A port's value after a blank, if it is an output.
+fn show_output(kind: u32, value: u64, out: &mut [u8], at: usize) -> usize
+    requires { ⌜ at + 21 ≤ length (now out) ⌝ }
+    ensures { λ r. ⌜ Wrote (now (out .entry)) at (outputOf kind value) 21 r (now (out .exit)) ⌝ }
+{
+    if kind < OUTPUT {
+        return at;
+    }
+    next_number(out, at, value)
+}
+
+// The outputs, each after a blank.
+fn show_outputs(plan: &[u32], outputs: &[u64], out: &mut [u8], at: usize) -> usize
+    requires { ⌜ (16 ≤ length (now outputs)) × (at + 336 ≤ length (now out)) ⌝ }
+    ensures { λ r. ⌜ Wrote (now (out .entry)) at (blanked (outputsFrom (now (plan .entry)) (now (outputs .entry)) (portsOf (now (plan .entry))) 0)) 336 r (now (out .exit)) ⌝ }
+{
+    let n = ports(plan);
+    let mut k = at;
+    let mut i = 0;
+    while i < n {
+        k = show_output(port_at(plan, i), outputs[place(i)], out, k);
+        i += 1;
+    }
+    k
+}
+
+// The line of a cycle: its answer; if that is 0 the number of present ports and the outputs too.
+fn show(
+    plan: &[u32],
+    answer: u32,
+    present: u32,
+    outputs: &[u64],
+    out: &mut [u8],
+    at: usize,
+) -> usize
+    requires { ⌜ (16 ≤ length (now outputs)) × (at + 378 ≤ length (now out)) ⌝ }
+    ensures { λ r. ⌜ Wrote (now (out .entry)) at (shownOf (now (plan .entry)) answer present (now (outputs .entry))) 378 r (now (out .exit)) ⌝ }
+{
+    let k = number(out, at, wide(answer));
+    if answer != 0 {
+        return put(out, k, 10);
+    }
+    let m = next_number(out, k, wide(present));
+    let e = show_outputs(plan, outputs, out, m);
+    put(out, e, 10)
+}
+
+// The line is whole: the cycle is run, and its line written.
+fn turned(
+    s: State,
+    mask: u32,
+    plan: &[u32],
+    values: &[u64],
+    outputs: &mut [u64],
+    memory: &mut [u64],
+    out: &mut [u8],
+) -> State
+    requires { ⌜ Roomy (now values) (now outputs) (now memory) (now out) (s .at) ⌝ }
+    ensures { λ r. ⌜ Left (turnedOf s mask (now (plan .entry)) (now (values .entry)) (now (outputs .entry)) (now (memory .entry))) (now (out .entry)) (s .at) r (now (values .entry)) (now (outputs .exit)) (now (memory .exit)) (now (out .exit)) ⌝ }
+{
+    let n = place(ports(plan));
+    let m = cells(plan);
+    let done = cycle::cycle(
+        plan,
+        mask,
+        &values[..n],
+        &mut memory[..m],
+        &mut outputs[..n],
+    );
+    let k = show(plan, done.answer, done.present, outputs, out, s.at);
+    State {
+        stage: Stage::Line,
+        number: 0,
+        begun: false,
+        left: less(s.left),
+        port: 0,
+        mask: mask,
+        actor: s.actor,
+        bindings: s.bindings,
+        plan: s.plan,
+        at: k,
+    }
+}
+
+// The mask, or a port's value, is kept.
+fn keep_value(s: State, values: &mut [u64]) -> u32
+    ensures { λ r. ⌜ (r ≡ maskAfter s) × (now (values .exit) ≡ valuesAfter s (now (values .entry))) ⌝ }
+{
+    if s.port == 0 {
+        return (s.number % 4294967296) as u32;
+    }
+    let i = place(s.port - 1);
+    if i < values.len() {
+        values[i] = s.number;
+    }
+    s.mask
+}
+
+// A number of the line has ended: a blank before the next input's value, a newline after the last.
+fn number_ends(
+    s: State,
+    b: u8,
+    plan: &[u32],
+    values: &mut [u64],
+    outputs: &mut [u64],
+    memory: &mut [u64],
+    out: &mut [u8],
+) -> State
+    requires { ⌜ Roomy (now values) (now outputs) (now memory) (now out) (s .at) ⌝ }
+    ensures { λ r. ⌜ Left (numberEnds s b (now (plan .entry)) (now (values .entry)) (now (outputs .entry)) (now (memory .entry))) (now (out .entry)) (s .at) r (now (values .exit)) (now (outputs .exit)) (now (memory .exit)) (now (out .exit)) ⌝ }
+{
+    let i = next_input(plan, s.port);
+    if i < ports(plan) {
+        if b != 32 {
+            return wrong(s);
+        }
+        let mask = keep_value(s, values);
+        return at_port(s, mask, i + 1);
+    }
+    if b != 10 {
+        return wrong(s);
+    }
+    let mask = keep_value(s, values);
+    turned(s, mask, plan, values, outputs, memory, out)
+}
+
+// A byte of a cycle's line.
+pub fn line_byte(
+    s: State,
+    b: u8,
+    plan: &[u32],
+    values: &mut [u64],
+    outputs: &mut [u64],
+    memory: &mut [u64],
+    out: &mut [u8],
+) -> State
+    requires { ⌜ Roomy (now values) (now outputs) (now memory) (now out) (s .at) ⌝ }
+    ensures { λ r. ⌜ Left (lineByte s b (now (plan .entry)) (now (values .entry)) (now (outputs .entry)) (now (memory .entry))) (now (out .entry)) (s .at) r (now (values .exit)) (now (outputs .exit)) (now (memory .exit)) (now (out .exit)) ⌝ }
+{
+    if takes_in_line(s, b) {
+        return longer(s, b);
+    }
+    if !s.begun {
+        return wrong(s);
+    }
+    let n = least(s.plan, plan.len());
+    number_ends(s, b, &plan[..n], values, outputs, memory, out)
+}
