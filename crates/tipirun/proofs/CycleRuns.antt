@@ -25,7 +25,7 @@ use Rattle.tipirun.proofs.TextRuns.{still-comes}
 use Rattle.tipirun.proofs.Lengths.{cycle-cells, cycle-slots}
 use Rattle.tipirun.proofs.LineValues.{After, Slots, Run, Turns, planTurn, turn-run}
 
-abbrev givenOf : Turn → List ℕ → Given
+abbrev pub givenOf : Turn → List ℕ → Given
 givenOf t memory = record { mask = t .mask; values = t .values; memory = memory }
 
 -- a plan as its text has it

@@ -15,4 +15,6 @@ pub mod LineValues
 pub mod Lengths
 pub mod CycleRuns
 pub mod Signatures
+pub mod Laying
+pub mod Spent
 pub mod Worked

@@ -77,7 +77,7 @@ digits-length (b ∷ bs) most n = go (digit b && ltb 0 n && leb (n * 10 + (b - 4
     go true h = omega arith
     go false h = omega arith
 
-number-length : (bs : List ℕ) (most : ℕ) → restLength (numberUpTo most bs) ≤ length bs
+pub number-length : (bs : List ℕ) (most : ℕ) → restLength (numberUpTo most bs) ≤ length bs
 unfolding numberUpTo restLength
 number-length [] most = omega arith
 number-length (b ∷ bs) most = go (digit b) (digits-length bs most (b - 48))

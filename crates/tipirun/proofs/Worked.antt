@@ -1,5 +1,5 @@
--- THE THEOREM: for every input shorter than 2^64 - 1 bytes what the program writes is what document 01 says, but for row 13 and for counts of 2^64 cycles and more.
--- That the plan of an accepted text has the ports and cells of the text (`Laid`) is asked here as a hypothesis.
+-- THE THEOREM: for every input shorter than 2^64 - 1 bytes what the machine writes (`Prints`) is what document 01 says, but for row 13, where it writes `13 0`. Assumes nothing.
+-- Each byte's step and the end are in the contracts of `feed` and `ended`; that `main`, which moves the bytes, writes no more and no less is read, not stated.
 use mathlib.Core.Path.{_≡_, refl, sym, ap, ap₂, _∙_, subst}
 use mathlib.Core.Bool.{Bool, true, false}
 use mathlib.Core.List.{List, [], _∷_, _++_}
@@ -13,8 +13,7 @@ use Rattle.language.specs.Bindings.{Got, got, lost, after}
 use Rattle.language.specs.Reading.{accepted, Reads}
 use Rattle.language.specs.Sizes.{Setting}
 use Rattle.language.specs.Meaning.{cellWidths}
-use Rattle.language.specs.Names.{inputNames}
-use Rattle.language.specs.Worked.{line, anyNumber, Input, inputOf, Writes, writes}
+use Rattle.language.specs.Worked.{line, anyNumber, cycles, Input, inputOf, Writes, writes}
 use Rattle.making.specs.Made.{tableAfter as tableWith}
 use Rattle.planned.specs.PlanOf.{planOf}
 use Rattle.planned.proofs.Theorems.{reads-planned}
@@ -27,7 +26,9 @@ use Rattle.tipirun.proofs.CountLines.{lineEnd}
 use Rattle.tipirun.proofs.Opening.{Ready}
 use Rattle.tipirun.proofs.LineValues.{Slots}
 use Rattle.tipirun.proofs.CycleRuns.{Agrees, Stands, cycles-run}
-use Rattle.tipirun.proofs.Signatures.{Kinds, turns-agree, lines-agree}
+use Rattle.tipirun.proofs.Signatures.{turns-agree, lines-agree}
+use Rattle.tipirun.proofs.Laying.{reads-laid}
+use Rattle.tipirun.proofs.Spent.{leaves-got, same-cycles, input-leaves, count-leaves}
 use Rattle.tipirun.proofs.Shown.{Shown, as-told, thirteen, cycles-come, shown}
 
 take-zeros : (n m : ℕ) → n ≤ m → take {A = ℕ} n (replicate m 0) ≡ replicate n 0
@@ -70,14 +71,9 @@ first-stands s a m n h r =
       count = length-replicate (length (s .actor .signature)) 0;
     }
 
--- the ports of a plan are those of the signature, inputs and outputs, and its cells those of the memories
-pub record Laid (s : Setting) : Type 0 where
-  pub ports : portsOf (planOf s) ≡ length (s .actor .signature)
-  pub cells : cellsOf (planOf s) ≡ length (cellWidths s)
-  pub kinds : Kinds (planOf s) (inputNames (s .actor .ports)) 0 (s .actor .signature)
-
-agrees-so : (text bindings : List ℕ) (s : Setting) → Reads text bindings (accepted s) → Laid s → Agrees s
-agrees-so text bindings s r l =
+agrees-so : (text bindings : List ℕ) (s : Setting) → Reads text bindings (accepted s) → Agrees s
+agrees-so text bindings s r =
+    let l = reads-laid text bindings s r in
     record {
       ports = l .ports;
       cells = l .cells;
@@ -86,26 +82,35 @@ agrees-so text bindings s r l =
       means = reads-planned text bindings s r .2 .means;
     }
 
+-- a count above `most` does as `most` does: the bytes end before either
+least-cycles : (s : Setting) (k most : ℕ) (memory outputs bs : List ℕ) → length bs < most → cycles s (min k most) memory outputs bs ≡ cycles s k memory outputs bs
+least-cycles s k most memory outputs bs h = go (leb k most) refl
+  where
+    go : (b : Bool) → leb k most ≡ b → cycles s (min k most) memory outputs bs ≡ cycles s k memory outputs bs
+    go true e = ap (λ (n : ℕ). cycles s n memory outputs bs) (let l = leb-true k most e in let q : min k most ≡ k = omega arith in q)
+    go false e = let l = leb-false k most e in same-cycles (min k most) k s memory outputs bs (omega arith) (omega arith)
+
+-- the bytes of the cycles are fewer than those of the input
+few-bytes : (input : List ℕ) (n : ℕ) (i : Input) (r : List ℕ) (k : ℕ) (x : List ℕ) → length input < n → inputOf input ≡ got i r → after (anyNumber r) lineEnd ≡ got k x → length x < n
+few-bytes input n i r k x h e f = leaves-got n (after (anyNumber r) lineEnd) k x f (count-leaves r n (leaves-got n (inputOf input) i r e (input-leaves input n h)))
+
 pub data Worked (input out : List ℕ) : Type 0 where
   as-01 : Writes input out → Worked input out
   row-13 : {i : Input} {r : List ℕ} (s : Setting) → inputOf input ≡ got i r → Reads (i .actor) (i .bindings) (accepted s) → 16_384 < length (planOf s) → out ≡ line (13 ∷ 0 ∷ []) → Worked input out
-  -- what is written for such a count of cycles is open
-  too-many : {i : Input} {r : List ℕ} (s : Setting) (k : ℕ) (x : List ℕ) → inputOf input ≡ got i r → Reads (i .actor) (i .bindings) (accepted s) → after (anyNumber r) lineEnd ≡ got k x → 18_446_744_073_709_551_615 < k → Worked input out
 
-pub worked : (input out : List ℕ) → length input < 18_446_744_073_709_551_615 → ((text bindings : List ℕ) (s : Setting) → Reads text bindings (accepted s) → Laid s) → Prints input out → Worked input out
-worked input out h laid x = go (shown input out h x)
+pub worked : (input out : List ℕ) → length input < 18_446_744_073_709_551_615 → Prints input out → Worked input out
+worked input out h x = go (shown input out h x)
   where
     go : Shown input out → Worked input out
     go (as-told w) = as-01 w
     go (thirteen s e r l f) = row-13 s e r l f
-    go (cycles-come {i = i} {r = r} s m k y e a l q f g z) = either (leb k 18_446_744_073_709_551_615) refl
-      where
-        either : (b : Bool) → leb k 18_446_744_073_709_551_615 ≡ b → Worked input out
-        either false p = too-many s k y e a f (leb-false k 18_446_744_073_709_551_615 p)
-        either true p =
-            let c = leb-true k 18_446_744_073_709_551_615 p in
-            let t = agrees-so (i .actor) (i .bindings) s a (laid (i .actor) (i .bindings) s a) in
-            as-01
-            (subst (Writes input)
-            (g ∙ sym (cycles-run s t k m (startOf (m .state) Line (min k 18_446_744_073_709_551_615)) (replicate (length (cellWidths s)) 0) (replicate (length (s .actor .signature)) 0) y out (first-stands s t m (min k 18_446_744_073_709_551_615) l q) (omega arith) z))
-            (writes (accepted s) e a))
+    go (cycles-come {i = i} {r = r} s m k y e a l q f g z) =
+        let t = agrees-so (i .actor) (i .bindings) s a in
+        let n = min k 18_446_744_073_709_551_615 in
+        let cells : List ℕ = replicate (length (cellWidths s)) 0 in
+        let slots : List ℕ = replicate (length (s .actor .signature)) 0 in
+        as-01
+        (subst (Writes input)
+        (g ∙ sym (cycles-run s t n m (startOf (m .state) Line n) cells slots y out (first-stands s t m n l q) refl z
+        ∙ least-cycles s k 18_446_744_073_709_551_615 cells slots y (few-bytes input 18_446_744_073_709_551_615 i r k y h e f)))
+        (writes (accepted s) e a))
