@@ -18,3 +18,4 @@ pub mod Signatures
 pub mod Laying
 pub mod Spent
 pub mod Worked
+pub mod Decided
