@@ -99,15 +99,15 @@ module _ (most : ℕ) where
 
 pub record Ranged (b : Bindings) : Type 0 where
   pub widths : (s : List ℕ) → valueIn (b .widths) s ≤ limits .width
-  pub values : (s : List ℕ) → valueIn (b .values) s ≤ limits .constant
+  pub values : (s : List ℕ) → valueIn (b .values) s ≤ limits .typeNumber
 
 sections-ranged : (bs : List ℕ) → Holds Ranged (sections bs)
 unfolding sections
 sections-ranged bs =
     holds-after (λ (l : List Binding). (s : List ℕ) → valueIn l s ≤ limits .width) Ranged (section (length bs) (limits .width) bs) _ (section-low (limits .width) (omega arith) (length bs) bs)
-    (λ ws r h. holds-after (λ (l : List Binding). (s : List ℕ) → valueIn l s ≤ limits .constant) Ranged (section (length bs) (limits .constant) r) _ (section-low (limits .constant) (omega arith) (length bs) r) (λ vs x k. ending ws vs h k x))
+    (λ ws r h. holds-after (λ (l : List Binding). (s : List ℕ) → valueIn l s ≤ limits .typeNumber) Ranged (section (length bs) (limits .typeNumber) r) _ (section-low (limits .typeNumber) (omega arith) (length bs) r) (λ vs x k. ending ws vs h k x))
   where
-    ending : (ws vs : List Binding) → ((s : List ℕ) → valueIn ws s ≤ limits .width) → ((s : List ℕ) → valueIn vs s ≤ limits .constant) → (x : List ℕ) → Holds Ranged (elim x as (λ (z : List ℕ). Got Bindings) [ [] ↦ got (record { widths = ws; values = vs }) [] | b ∷ y ↦ lost (b ∷ y) ])
+    ending : (ws vs : List Binding) → ((s : List ℕ) → valueIn ws s ≤ limits .width) → ((s : List ℕ) → valueIn vs s ≤ limits .typeNumber) → (x : List ℕ) → Holds Ranged (elim x as (λ (z : List ℕ). Got Bindings) [ [] ↦ got (record { widths = ws; values = vs }) [] | b ∷ y ↦ lost (b ∷ y) ])
     ending ws vs h k [] = record { widths = h; values = k }
     ending ws vs h k (b ∷ y) = tt
 

@@ -14,8 +14,8 @@ use Rattle.language.specs.Bindings.{Binding, Bindings, Got, got, lost, after, b
 use Rattle.placed.specs.Placed.{Every}
 
 -- a line's name is as many bytes at its place
-abbrev pub Stands : List ℕ → Binding → Type 0
-Stands text l = l .called .spelled ≡ take (length (l .called .spelled)) (drop (l .called .at) text)
+abbrev pub NameStands : List ℕ → Binding → Type 0
+NameStands text l = l .called .spelled ≡ take (length (l .called .spelled)) (drop (l .called .at) text)
 
 -- the bytes from some place of a text on
 record Tail (x y : List ℕ) : Type 0 where
@@ -131,7 +131,7 @@ number-small most (b ∷ x) {v} {y} h e = go (leb 48 b) (leb b 57) refl e
 
 module _ (text : List ℕ) where
   record Lines (k : ℕ) (l : List Binding) (w : List ℕ) : Type 0 where
-    stand : Every (Stands text) l
+    stand : Every (NameStands text) l
     tail : Tail text w
     long : length l ≡ k
 
@@ -142,7 +142,7 @@ module _ (text : List ℕ) where
   one-more : (bs s r : List ℕ) (v k : ℕ) {l l' : List Binding} {w w' : List ℕ} → Tail text bs → bs ≡ s ++ r → Lines k l w → got (record { called = record { at = length text - length bs; spelled = s }; value = v } ∷ l) w ≡ got l' w' → Lines (suc k) l' w'
   one-more bs s r v k {l} {l'} {w} {w'} t e i q =
       record {
-        stand = subst (λ (l : List Binding). Every (Stands text) l) lines (stands-here bs s r t e, i .stand);
+        stand = subst (λ (l : List Binding). Every (NameStands text) l) lines (stands-here bs s r t e, i .stand);
         tail = subst (λ (w : List ℕ). Tail text w) (let f : w ≡ w' = cc in f) (i .tail);
         long = sym (ap length lines) ∙ ap suc (i .long);
       }
@@ -163,7 +163,7 @@ module _ (text : List ℕ) where
       one-more bs (a .what) (a .rest) (c .what) k {l = f .what} {w = f .rest} t s (lines-got most k (a .what ∷ seen) (d .rest) (tail-more t (tail-more (record { front = a .what; is = s }) (tail-more (b .tail) (tail-more (number-got most (b .rest) (c .is)) (d .tail))))) (f .is)) (f .goes)
 
   record Section (l : List Binding) (w : List ℕ) : Type 0 where
-    stand : Every (Stands text) l
+    stand : Every (NameStands text) l
     tail : Tail text w
     few : length l ≤ limits .lines
 
@@ -176,8 +176,8 @@ module _ (text : List ℕ) where
       record { stand = i .stand; tail = i .tail; few = let k = number-small (limits .lines) bs (omega arith) (a .is) in let j = i .long in omega arith }
 
   pub record Both (b : Bindings) : Type 0 where
-    pub widths : Every (Stands text) (b .widths)
-    pub values : Every (Stands text) (b .values)
+    pub widths : Every (NameStands text) (b .widths)
+    pub values : Every (NameStands text) (b .values)
     pub few-widths : length (b .widths) ≤ limits .lines
     pub few-values : length (b .values) ≤ limits .lines
 
@@ -186,8 +186,8 @@ module _ (text : List ℕ) where
   sections-got {b} {w} e =
       let x = after-got (section (length text) (limits .width) text) _ e in
       let i = section-got (limits .width) text (tail-here refl) (x .is) in
-      let y = after-got (section (length text) (limits .constant) (x .rest)) _ (x .goes) in
-      let j = section-got (limits .constant) (x .rest) (i .tail) (y .is) in
+      let y = after-got (section (length text) (limits .typeNumber) (x .rest)) _ (x .goes) in
+      let j = section-got (limits .typeNumber) (x .rest) (i .tail) (y .is) in
       subst (λ (b : Bindings). Both b) (same-as (x .what) (y .what) (y .rest) (y .goes)) (record { widths = i .stand; values = j .stand; few-widths = i .few; few-values = j .few })
     where
       same-as : (ws vs : List Binding) (r : List ℕ) → _≡_ {A = Got Bindings} (elim r [ [] ↦ got (record { widths = ws; values = vs }) [] | c ∷ y ↦ lost (c ∷ y) ]) (got b w) → record { widths = ws; values = vs } ≡ b

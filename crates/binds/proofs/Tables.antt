@@ -18,10 +18,10 @@ use Rattle.bindings.specs.declared.Answer.{Answer}
 use Rattle.bindings.specs.declared.Answer.the-variants.{Bound as IsBound, Wrong, NoRoom}
 use Rattle.placed.specs.Placed.{Every}
 use Rattle.binds.specs.Lines.{nameOn, namesOn, linesOn, Binds}
-use Rattle.binds.proofs.Spelled.{Stands, bound-names}
+use Rattle.binds.proofs.Spelled.{NameStands, bound-names}
 
 module _ (btext t : List ℕ) where
-  line-is : (i : ℕ) (x : Binding) (l : List ℕ) → Stands btext x → drop (3 * i) t ≡ x .called .at ∷ length (x .called .spelled) ∷ x .value ∷ l → lineIn btext t i ≡ x
+  line-is : (i : ℕ) (x : Binding) (l : List ℕ) → NameStands btext x → drop (3 * i) t ≡ x .called .at ∷ length (x .called .spelled) ∷ x .value ∷ l → lineIn btext t i ≡ x
   unfolding lineIn
   line-is i x l h e =
       let p : getD t (3 * i) 0 ≡ x .called .at = ap (λ (n : ℕ). getD t n 0) (omega arith) ∙ sym (getD-drop (3 * i) t 0 0) ∙ ap (λ (l : List ℕ). getD l 0 0) e in
@@ -29,7 +29,7 @@ module _ (btext t : List ℕ) where
       let r : getD t (3 * i + 2) 0 ≡ x .value = sym (getD-drop (3 * i) t 2 0) ∙ ap (λ (l : List ℕ). getD l 2 0) e in
       rw (p, q, r) (ap (λ (s : List ℕ). record { called = record { at = x .called .at; spelled = s }; value = x .value }) (sym h))
 
-  lines-are : (l : List Binding) (from : ℕ) (rest : List ℕ) → Every (Stands btext) l → drop (3 * from) t ≡ cells l ++ rest → linesOn btext t from (length l) ≡ l
+  lines-are : (l : List Binding) (from : ℕ) (rest : List ℕ) → Every (NameStands btext) l → drop (3 * from) t ≡ cells l ++ rest → linesOn btext t from (length l) ≡ l
   unfolding linesOn cells
   lines-are [] from rest h e = refl
   lines-are (x ∷ l) from rest h e =

@@ -15,7 +15,7 @@ use Rattle.plan.specs.Steps.{rulesOf}
 use Rattle.plan.proofs.Laws.{and-left, and-right}
 use Rattle.plan.proofs.Parts.{ports-few, group-rules, rule-whole, rule-inside}
 use Rattle.cycle.specs.Machine.{bitsAgree, matchesOf, matching, Fired, fired, unfired, firing, allBelow, inputFits, memoryFits, fitting}
-use Rattle.cycle.specs.Safety.{Given}
+use Rattle.cycle.specs.Safety.{CodeGiven}
 use Rattle.cycle.specs.Fire.{Fires, firedAt}
 use Rattle.cycle.proofs.Firing.{cells-within}
 
@@ -87,7 +87,7 @@ module _ (p : List ℕ) (mask : ℕ) (values memory : List ℕ) (hs : sectionsOk
             (below-at p (memorySizeAt p m) (λ j. ltb (getD memory (cellsBefore p m + j) 0) (2 ^ memoryWidthAt p m)) i g (rw e at k))),
       )
 
-  rule-given : (r : ℕ) → matchesOf p mask r ≡ true → Given p (presentAt p r) values memory
+  rule-given : (r : ℕ) → matchesOf p mask r ≡ true → CodeGiven p (presentAt p r) values memory
   rule-given r h = record { ports = lv; inputs = λ i. input-fits r i h; cells = cell-fits (presentAt p r) }
 
 -- ---- which rules fire

@@ -14,7 +14,7 @@ use Rattle.plan.specs.Sound.{check, endOf, ended, checkAll, ruleCheck, slots, u
 use Rattle.plan.specs.Steps.{rulesOf}
 use Rattle.cycle.specs.Machine.{State, state, execAll, execRules}
 use Rattle.cycle.specs.Ready.{Buffered}
-use Rattle.cycle.specs.Safety.{Good, SlotsFit, Given, Held, Safe, Ran}
+use Rattle.cycle.specs.Safety.{Good, SlotsFit, CodeGiven, StateHeld, Safe, Ran}
 use Rattle.cycle.specs.Fire.{Fires, ruleRun}
 use Rattle.cycle.proofs.Safe.{slots-start}
 

@@ -23,7 +23,7 @@ use Rattle.plan.proofs.Laws.{and-left, and-right, pushes, output-facts}
 use Rattle.plan.proofs.Turns.{check-broken}
 use Rattle.cycle.specs.Machine.{State, state, cellOf, pick, writeTo, exec1}
 use Rattle.cycle.specs.Ready.{valueOf, Asks}
-use Rattle.cycle.specs.Safety.{Good, Fit, SlotsFit, Given, Held, Safe}
+use Rattle.cycle.specs.Safety.{Good, Fit, SlotsFit, CodeGiven, StateHeld, Safe}
 use Rattle.cycle.proofs.Leaves.{leave}
 
 -- ---- what the check of the rest says
@@ -123,7 +123,7 @@ unfolding pick
 pick-fits true x y k h l = h
 pick-fits false x y k h l = l
 
-module _ (p : List ℕ) (present : ℕ) (values memory lw lv os : List ℕ) (g : Given p present values memory) (s : SlotsFit lw lv)
+module _ (p : List ℕ) (present : ℕ) (values memory lw lv os : List ℕ) (g : CodeGiven p present values memory) (s : SlotsFit lw lv)
     (wx wy c x y : ℕ) (lx : wx ≤ 64) (ly : wy ≤ 64) (hx : x < 2 ^ wx) (hy : y < 2 ^ wy) where
   abbrev t0 : Rules
   t0 = rulesOf p present 0
@@ -186,11 +186,11 @@ pub record Found (p : List ℕ) (present taken : ℕ) (values memory : List ℕ)
   pub asks : Asks values memory (s .slots) (s .outputs) (getD (s .waits) 1 0) (getD (s .waits) 0 0) i
   pub safe : Safe p present taken is (exec1 values memory i s)
 
-module _ (p : List ℕ) (present taken : ℕ) (values memory : List ℕ) (g : Given p present values memory) (is : List Item) where
+module _ (p : List ℕ) (present taken : ℕ) (values memory : List ℕ) (g : CodeGiven p present values memory) (is : List Item) where
   abbrev t : Rules
   t = rulesOf p present taken
 
-  leaving : (i : Item) (ws lw vs lv os : List ℕ) (d : ℕ) (qs : List (Change ℕ)) → actsOf i ≡ false → Good t is (check1 t i ws lw d) → length lw ≡ 48 → Held p ws lw (state vs lv os qs)
+  leaving : (i : Item) (ws lw vs lv os : List ℕ) (d : ℕ) (qs : List (Change ℕ)) → actsOf i ≡ false → Good t is (check1 t i ws lw d) → length lw ≡ 48 → StateHeld p ws lw (state vs lv os qs)
       → Found p present taken values memory is i (state vs lv os qs)
   leaving i ws lw vs lv os d qs h good lwide f =
       let o = over-good t is (takesOf i) (widthOf (rulesOf p present 0) lw (getD ws 1 0) (getD ws 0 0) i) ws lw d (rw (pushes p present taken lw d i ws h) at good) in
@@ -218,7 +218,7 @@ module _ (p : List ℕ) (present taken : ℕ) (values memory : List ℕ) (g : Gi
   unfolding memoryOk
   written-inside m a n h = g .cells m a n h .0
 
-  pub found : (i : Item) (ws lw vs lv os : List ℕ) (d : ℕ) (qs : List (Change ℕ)) → Good t is (check1 t i ws lw d) → length lw ≡ 48 → Held p ws lw (state vs lv os qs)
+  pub found : (i : Item) (ws lw vs lv os : List ℕ) (d : ℕ) (qs : List (Change ℕ)) → Good t is (check1 t i ws lw d) → length lw ≡ 48 → StateHeld p ws lw (state vs lv os qs)
       → Found p present taken values memory is i (state vs lv os qs)
   found (Const w lo hi) ws lw vs lv os d qs q l f = leaving (Const w lo hi) ws lw vs lv os d qs refl q l f
   found (Port i) ws lw vs lv os d qs q l f = leaving (Port i) ws lw vs lv os d qs refl q l f

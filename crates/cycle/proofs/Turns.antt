@@ -15,7 +15,7 @@ use Rattle.plan.proofs.Turns.{rest, rest-next, rest-none}
 use Rattle.plan.proofs.Waits.{length-top}
 use Rattle.cycle.specs.Machine.{State, state, exec1, execAll}
 use Rattle.cycle.specs.Ready.{Asks, Ready, Buffered, Left}
-use Rattle.cycle.specs.Safety.{Good, Given, Held, Safe, Ran}
+use Rattle.cycle.specs.Safety.{Good, CodeGiven, StateHeld, Safe, Ran}
 use Rattle.cycle.proofs.Safe.{Found, found}
 
 -- a state is safe whatever was written
@@ -38,7 +38,7 @@ good-next : (t : Rules) (p : List ℕ) (at items i : ℕ) (ws ls : List ℕ) (d 
 unfolding checkAll checkStep
 good-next t p at items i ws ls d h l g = rw (rest-next p at items i h l) at g
 
-module _ (p : List ℕ) (present taken : ℕ) (values memory : List ℕ) (g : Given p present values memory) (at items i : ℕ) (h : i < items) (l : at + 4 * (items - i) ≤ length p) where
+module _ (p : List ℕ) (present taken : ℕ) (values memory : List ℕ) (g : CodeGiven p present values memory) (at items i : ℕ) (h : i < items) (l : at + 4 * (items - i) ≤ length p) where
   pub turn-found : (s : State) → Safe p present taken (rest p at items i) s → Found p present taken values memory (rest p (at + 4) items (i + 1)) (itemAt p at) s
   turn-found s f =
       found p present taken values memory g (rest p (at + 4) items (i + 1)) (itemAt p at) (f .0) (f .1) (s .waits) (s .slots) (s .outputs) (f .2) (s .writes)

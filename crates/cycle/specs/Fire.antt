@@ -12,7 +12,7 @@ use Rattle.plan.specs.Items.{decodeAll}
 use Rattle.plan.specs.Layout.{codeAt}
 use Rattle.plan.specs.Sound.{slots}
 use Rattle.cycle.specs.Machine.{Fired, fired, unfired, State, state, execAll}
-use Rattle.cycle.specs.Safety.{Given}
+use Rattle.cycle.specs.Safety.{CodeGiven}
 
 -- "23 no rule matches, 24 two or more match"
 abbrev pub answerOf : List ℕ → ℕ
@@ -30,7 +30,7 @@ pub record Fires (p values memory : List ℕ) (r : ℕ) : Type 0 where
   pub taken : ℕ
   pub assigned : ℕ
   pub checked : ruleCheck p taken r ≡ ended assigned
-  pub given : Given p (presentAt p r) values memory
+  pub given : CodeGiven p (presentAt p r) values memory
 
 -- one rule's run, over the outputs and writes of those before it
 unfoldable pub ruleRun : (p values memory : List ℕ) → ℕ → List ℕ → List (Change ℕ) → State

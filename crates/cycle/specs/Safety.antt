@@ -29,19 +29,19 @@ pub record SlotsFit (lw lv : List ℕ) : Type 0 where
   pub fits : (k : ℕ) → getD lw k unset ≤ 64 → getD lv k 0 < 2 ^ getD lw k unset
 
 -- what a rule's code may count on: its inputs and its memories' cells fit their widths
-pub record Given (p : List ℕ) (present : ℕ) (values memory : List ℕ) : Type 0 where
+pub record CodeGiven (p : List ℕ) (present : ℕ) (values memory : List ℕ) : Type 0 where
   pub ports : length values ≡ portCount p
   pub inputs : (i : ℕ) → inputOk (rulesOf p present 0) i ≡ true → (i < length values) × (getD values i 0 < 2 ^ portAt p i)
   pub cells : (m f n : ℕ) → memoryOk (rulesOf p present 0) m f n ≡ true → (f + n ≤ length memory) × ((a : ℕ) → a < n → getD memory (f + a) 0 < 2 ^ memoryWidthAt p m)
 
 -- a state fits what the check knows of it
-pub record Held (p ws lw : List ℕ) (s : State) : Type 0 where
+pub record StateHeld (p ws lw : List ℕ) (s : State) : Type 0 where
   pub fit : Fit ws (s .waits)
   pub slot : SlotsFit lw (s .slots)
   pub outs : length (s .outputs) ≡ portCount p
 
 abbrev pub Safe : List ℕ → ℕ → ℕ → List Item → State → Type 0
-Safe p present taken is s = (ws : List ℕ) × (lw : List ℕ) × (d : ℕ) × Good (rulesOf p present taken) is (check ws lw d) × (length lw ≡ 48) × Held p ws lw s
+Safe p present taken is s = (ws : List ℕ) × (lw : List ℕ) × (d : ℕ) × Good (rulesOf p present taken) is (check ws lw d) × (length lw ≡ 48) × StateHeld p ws lw s
 
 -- what a rule's run leaves: outputs and writes
 pub record Ran (memory outputs next marks : List ℕ) (clash : Bool) (s : State) : Type 0 where

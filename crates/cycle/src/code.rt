@@ -10,7 +10,7 @@ ghost use Rattle.plan.specs.Layout.{portCount};
 ghost use Rattle.cycle.specs.Machine.{State, state, execAll, execRules};
 ghost use Rattle.cycle.specs.Fire.{Fires, ruleRun};
 ghost use Rattle.cycle.specs.Ready.{Buffered};
-ghost use Rattle.cycle.specs.Safety.{Given, Safe, Ran};
+ghost use Rattle.cycle.specs.Safety.{CodeGiven, Safe, Ran};
 use crate::steps::step;
 use plan::code_at;
 use plan::fetch_sound;
@@ -30,7 +30,7 @@ fn run_items(
     items: usize,
     clash: bool,
 ) -> bool
-    requires { ⌜ (from + 4 * items ≤ length (now plan)) × (length (now stack) ≡ 256) × (length (now memory) ≤ length (now next)) × (length (now memory) ≤ length (now marks)) × ((qs : List (Change ℕ)) × Buffered (now memory) (now next) (now marks) clash qs) × ((present : ℕ) × (taken : ℕ) × Given (now plan) present (now values) (now memory) × Safe (now plan) present taken (decodeAll (take (4 * items) (drop from (now plan)))) (state [] (now slots) (now outputs) [])) ⌝ }
+    requires { ⌜ (from + 4 * items ≤ length (now plan)) × (length (now stack) ≡ 256) × (length (now memory) ≤ length (now next)) × (length (now memory) ≤ length (now marks)) × ((qs : List (Change ℕ)) × Buffered (now memory) (now next) (now marks) clash qs) × ((present : ℕ) × (taken : ℕ) × CodeGiven (now plan) present (now values) (now memory) × Safe (now plan) present taken (decodeAll (take (4 * items) (drop from (now plan)))) (state [] (now slots) (now outputs) [])) ⌝ }
     ensures { λ r. ⌜ ((qs : List (Change ℕ)) → Buffered (now (memory .entry)) (now (next .entry)) (now (marks .entry)) clash qs → Ran (now (memory .entry)) (now (outputs .exit)) (now (next .exit)) (now (marks .exit)) r (execAll (now (values .entry)) (now (memory .entry)) (decodeAll (take (4 * items) (drop from (now (plan .entry))))) (state [] (now (slots .entry)) (now (outputs .entry)) qs))) ⌝ }
 {
     let end = from + 4 * items;

@@ -77,7 +77,7 @@ section long most bs = after (numberUpTo (limits .lines) bs) (λ k r. byte 10 r 
 -- "`port width` (0 to 32) .. `name value` (0 to 65,535) .. nothing after"
 unfoldable pub sections : List ℕ → Got Bindings
 sections bs =
-    after (section (length bs) (limits .width) bs) (λ ws r. after (section (length bs) (limits .constant) r)
+    after (section (length bs) (limits .width) bs) (λ ws r. after (section (length bs) (limits .typeNumber) r)
     (λ vs x. elim x [ [] ↦ got (record { widths = ws; values = vs }) [] | b ∷ y ↦ lost (b ∷ y) ]))
 
 pub data Bound : Type 0 where

@@ -98,5 +98,5 @@ limitFaults ws a =
     ++ (tooMany (limits .rules) (each (λ r. r .called ∷ []) (rulesOf a))
     ++ (each (λ r. tooMany (limits .vals) (each valNames (r .body))) (rulesOf a)
     ++ (each (λ n. when (not (leb (n .value) (limits .copies))) (n .at)) (numbers (actorItems a))
-    ++ (each (λ t. elim (leb (typeWords t) (limits .words)) [ true ↦ [] | false ↦ wordAfter ws (typeStart t) (limits .words) ]) (types (actorItems a))
-    ++ each (λ e. elim (leb (exprWords e) (limits .whole)) [ true ↦ [] | false ↦ wordAfter ws (start e) (limits .whole) ]) (each wholes (statements a)))))))))
+    ++ (each (λ t. elim (leb (typeWords t) (limits .typeWords)) [ true ↦ [] | false ↦ wordAfter ws (typeStart t) (limits .typeWords) ]) (types (actorItems a))
+    ++ each (λ e. elim (leb (exprWords e) (limits .expressionWords)) [ true ↦ [] | false ↦ wordAfter ws (start e) (limits .expressionWords) ]) (each wholes (statements a)))))))))

@@ -19,9 +19,9 @@ limits = record {
   rules = 32;
   vals = 16;
   width = 32;
-  constant = 65_535;
-  words = 64;
-  whole = 256;
+  typeNumber = 65_535;
+  typeWords = 64;
+  expressionWords = 256;
   copies = 64;
-  wide = 64;
+  expressionWidth = 64;
 }

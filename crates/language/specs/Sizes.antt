@@ -43,7 +43,7 @@ faultsOf (faulty l) = l
 
 -- "expression over 64 wide"
 unfoldable pub limited : ℕ → ℕ → Extent
-limited p w = elim (leb w (limits .wide)) [ true ↦ wide w | false ↦ faulty (p ∷ []) ]
+limited p w = elim (leb w (limits .expressionWidth)) [ true ↦ wide w | false ↦ faulty (p ∷ []) ]
 
 -- the `let`s in force, the latest first
 pub record Let (A : Type 0) : Type 0 where
@@ -84,7 +84,7 @@ module _ (s : Setting) where
 
     unfoldable pub extent : Expr → Extent
     extent (plain n) = wide (plainWidth (n .value))
-    extent (sized w a) = elim (leb (breadthOf w) (limits .wide)) [ true ↦ elim (ltb (amountOf a) (2 ^ breadthOf w)) [ true ↦ wide (breadthOf w) | false ↦ faulty (start (sized w a) ∷ []) ] | false ↦ faulty (start (sized w a) ∷ []) ]
+    extent (sized w a) = elim (leb (breadthOf w) (limits .expressionWidth)) [ true ↦ elim (ltb (amountOf a) (2 ^ breadthOf w)) [ true ↦ wide (breadthOf w) | false ↦ faulty (start (sized w a) ∷ []) ] | false ↦ faulty (start (sized w a) ∷ []) ]
     extent (copies n e) = one-part (extent e) (λ w. limited (n .at) (n .value * w))
     extent (read n) = readExtent (n .spelled)
     extent (cell n a) = one-part (extent a) (λ w. wide (memoryWidth (s .actor) (s .widths) (n .spelled)))

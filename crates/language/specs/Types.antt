@@ -112,7 +112,7 @@ logs (within p t) = logs t
 -- `free`: a port's type may: "After `-`, that is in its right operand, no port's type may stand."
 -- "A log's argument holds no log outside `floor` and `ceil`. At most two logs stand together within one `floor`, one `ceil`, or the type outside them."
 unfoldable pub rulesBroken : Bool → Bool → Ty → List ℕ
-rulesBroken top free (number n) = when (not (leb (n .value) (limits .constant))) (n .at)
+rulesBroken top free (number n) = when (not (leb (n .value) (limits .typeNumber))) (n .at)
 rulesBroken top free (environment n) = []
 rulesBroken top free (port n) = when (not free) (n .at)
 rulesBroken top free (plus s t) = rulesBroken top free s ++ rulesBroken top free t

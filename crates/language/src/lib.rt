@@ -142,11 +142,11 @@ pub struct Limits {
     pub rules: u32,
     pub vals: u32,
     pub width: u32,
-    pub constant: u32,
-    pub words: u32,
-    pub whole: u32,
+    pub typeNumber: u32,
+    pub typeWords: u32,
+    pub expressionWords: u32,
     pub copies: u32,
-    pub wide: u32,
+    pub expressionWidth: u32,
 }
 
 // The limits of specs/ are those of the code.
@@ -167,10 +167,10 @@ pub fn all() -> Limits
         rules: Plan::RULES,
         vals: Plan::VALS,
         width: Plan::WIDTH,
-        constant: Type::NUMBER,
-        words: Type::WORDS,
-        whole: Expression::WORDS,
+        typeNumber: Type::NUMBER,
+        typeWords: Type::WORDS,
+        expressionWords: Expression::WORDS,
         copies: Expression::COPIES,
-        wide: Expression::WIDTH,
+        expressionWidth: Expression::WIDTH,
     }
 }

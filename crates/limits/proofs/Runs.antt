@@ -76,10 +76,10 @@ module _ {ps : List ℕ} where
 
 module _ (ps : List ℕ) where
   unfoldable pub typeF : Ty → List ℕ
-  typeF t = longIn ps (limits .words) (typeWords t) (typeStart t)
+  typeF t = longIn ps (limits .typeWords) (typeWords t) (typeStart t)
 
   unfoldable pub wholeF : Expr → List ℕ
-  wholeF e = longIn ps (limits .whole) (exprWords e) (start e)
+  wholeF e = longIn ps (limits .expressionWords) (exprWords e) (start e)
 
   unfoldable pub numberF : Numeral → List ℕ
   numberF n = when (ltb (limits .copies) (n .value)) (n .at)

@@ -195,7 +195,7 @@ module _ (ws : List Word) where
         wholesF : List ℕ
         wholesF = each (wholeF ps) (each wholes (statements a))
 
-        things-last : Same ((inPorts ++ (inMemories ++ inStatements)) ++ wholesF) (each (λ (n : Numeral). when (not (leb (n .value) (limits .copies))) (n .at)) (numbers (actorItems a)) ++ (each (λ (t : Ty). longAt (limits .words) (typeWords t) (typeStart t)) (types (actorItems a)) ++ each (λ (e : Expr). longAt (limits .whole) (exprWords e) (start e)) (each wholes (statements a))))
+        things-last : Same ((inPorts ++ (inMemories ++ inStatements)) ++ wholesF) (each (λ (n : Numeral). when (not (leb (n .value) (limits .copies))) (n .at)) (numbers (actorItems a)) ++ (each (λ (t : Ty). longAt (limits .typeWords) (typeWords t) (typeStart t)) (types (actorItems a)) ++ each (λ (e : Expr). longAt (limits .expressionWords) (exprWords e) (start e)) (each wholes (statements a))))
         things-last =
             then (beside (then (is all-things) (things-split (actorItems a))) (equal wholesF))
             (is (append-assoc (each (numberF ps) (numbers (actorItems a))) (each (typeF ps) (types (actorItems a))) wholesF
@@ -204,10 +204,10 @@ module _ (ws : List Word) where
             number-same : (n : Numeral) → numberF ps n ≡ when (not (leb (n .value) (limits .copies))) (n .at)
             number-same n = ap (λ (b : Bool). when b (n .at)) (over-not (n .value) 64)
 
-            type-same : (t : Ty) → typeF ps t ≡ longAt (limits .words) (typeWords t) (typeStart t)
+            type-same : (t : Ty) → typeF ps t ≡ longAt (limits .typeWords) (typeWords t) (typeStart t)
             type-same t = long-same 64 (typeWords t) (typeStart t)
 
-            whole-same : (e : Expr) → wholeF ps e ≡ longAt (limits .whole) (exprWords e) (start e)
+            whole-same : (e : Expr) → wholeF ps e ≡ longAt (limits .expressionWords) (exprWords e) (start e)
             whole-same e = long-same 256 (exprWords e) (start e)
 
 module _ (text t : List ℕ) (n many : ℕ) (k : n ≤ length t) (low : 3 * many ≤ n) (high : n < 3 * many + 3) {ws : List Word} {a : Actor} (h : Tells text t n ws a) where

@@ -119,24 +119,24 @@ bothOf Nowhere b = b
 
 -- the limit of a type's words, where there is a type
 unfoldable pub inType : Bool → ℕ
-inType true = limits .words
+inType true = limits .typeWords
 inType false = 0
 
 -- the limit of the words of the part before it, and of the one before that; 0 where it holds none
 unfoldable pub lastLimit : ℕ → ℕ → ℕ
 lastLimit o v =
     elim (eqb o TYPED) [
-      | true ↦ limits .words
+      | true ↦ limits .typeWords
       | false ↦ elim (eqb o BIT) [
-        | true ↦ limits .words
+        | true ↦ limits .typeWords
         | false ↦ elim (eqb o RANGE) [
-          | true ↦ limits .words
+          | true ↦ limits .typeWords
           | false ↦ elim (eqb o ASSIGN) [
-            | true ↦ limits .whole
+            | true ↦ limits .expressionWords
             | false ↦ elim (eqb o WRITE) [
-              | true ↦ limits .whole
+              | true ↦ limits .expressionWords
               | false ↦ elim (eqb o VAL) [
-                | true ↦ limits .whole
+                | true ↦ limits .expressionWords
                 | false ↦ elim (eqb o DECLARED) [ true ↦ inType (eqb (v % 2) 1) | false ↦ elim (eqb o MEMORY) [ true ↦ inType (eqb v 1) | false ↦ 0 ] ]
               ]
             ]
@@ -146,7 +146,7 @@ lastLimit o v =
     ]
 
 unfoldable pub otherLimit : ℕ → ℕ → ℕ
-otherLimit o v = elim (eqb o RANGE) [ true ↦ limits .words | false ↦ elim (eqb o WRITE) [ true ↦ limits .whole | false ↦ elim (eqb o VAL) [ true ↦ inType (eqb v 1) | false ↦ 0 ] ] ]
+otherLimit o v = elim (eqb o RANGE) [ true ↦ limits .typeWords | false ↦ elim (eqb o WRITE) [ true ↦ limits .expressionWords | false ↦ elim (eqb o VAL) [ true ↦ inType (eqb v 1) | false ↦ 0 ] ] ]
 
 -- the size before an item, and its place: 1, and another place, where there is none
 unfoldable pub sizeIn : List Triple → ℕ

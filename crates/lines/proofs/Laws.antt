@@ -11,7 +11,7 @@ use lib.ListN.{length, take, drop, getD, length-append, drop-of-length-le}
 use lib.Seq.{drop-cons, drop-drop, drop-append-add, getD-drop, getD-append-seam}
 use borrow.Author.Tests.{eq-eqb, ne-eqb, eqb-true, eqb-false}
 use Rattle.language.specs.Text.{Line, upToEnd, lineFrom}
-use Rattle.lines.specs.Bounds.{startOf, endOf, Stands}
+use Rattle.lines.specs.Bounds.{startOf, endOf, LineStands}
 
 -- ---- the start, going down from the place
 
@@ -155,7 +155,7 @@ module _ (text : List ℕ) (place : ℕ) where
       let there : 0 + length {A = ℕ} [] + place ≡ place = omega arith in
       inside text place text 0 [] (record { stands = refl; starts = refl; endless = λ l. refl }) h ∙ ap (found text) there
 
-  pub part-inside : (from to : ℕ) → from ≡ startOf text place → to ≡ endOf text from → place < length text → Stands text (lineFrom 0 [] text place) (take (to - from) (drop from text))
+  pub part-inside : (from to : ℕ) → from ≡ startOf text place → to ≡ endOf text from → place < length text → LineStands text (lineFrom 0 [] text place) (take (to - from) (drop from text))
   unfolding endOf found
   part-inside from to s e h =
       rw (line-inside h, ← s, whole) (record { bytes = refl; part = front (drop from text) })
@@ -166,7 +166,7 @@ module _ (text : List ℕ) (place : ℕ) where
       whole : take (to - from) (drop from text) ≡ upToEnd (drop from text)
       whole = ap (λ (n : ℕ). take n (drop from text)) long ∙ front (drop from text)
 
-  pub part-outside : length text ≤ place → Stands text (lineFrom 0 [] text place) (take (length text - length text) (drop (length text) text))
+  pub part-outside : length text ≤ place → LineStands text (lineFrom 0 [] text place) (take (length text - length text) (drop (length text) text))
   unfolding ended
   part-outside h = rw (outside text place 0 [] h, empty) (record { bytes = refl; part = refl })
     where

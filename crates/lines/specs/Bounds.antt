@@ -24,6 +24,6 @@ textOf actor bindings InActor = actor
 textOf actor bindings InBindings = bindings
 
 -- the bytes are the line's, and they stand in the text where the line starts
-pub record Stands (text : List ℕ) (line : Line) (r : List ℕ) : Type 0 where
+pub record LineStands (text : List ℕ) (line : Line) (r : List ℕ) : Type 0 where
   pub bytes : r ≡ line .bytes
   pub part : take (length r) (drop (line .from) text) ≡ r

@@ -11,10 +11,10 @@ use Rattle.placed.specs.Placed.{Every}
 
 -- row 7 finds a type and a whole expression of too many words: its first word is among the actor's, and as many follow
 pub record Worded (ws : List Word) (a : Actor) : Type 0 where
-  pub inTypes : Every (λ t. wordAfter ws (typeStart t) (limits .words) ≡ [] → typeWords t ≤ limits .words) (types (actorItems a))
-  pub inWholes : Every (λ e. wordAfter ws (start e) (limits .whole) ≡ [] → exprWords e ≤ limits .whole) (each wholes (statements a))
+  pub inTypes : Every (λ t. wordAfter ws (typeStart t) (limits .typeWords) ≡ [] → typeWords t ≤ limits .typeWords) (types (actorItems a))
+  pub inWholes : Every (λ e. wordAfter ws (start e) (limits .expressionWords) ≡ [] → exprWords e ≤ limits .expressionWords) (each wholes (statements a))
 
 -- "type 64 words; expression 256 words"
 pub record Short (a : Actor) : Type 0 where
-  pub inTypes : Every (λ t. typeWords t ≤ limits .words) (types (actorItems a))
-  pub inWholes : Every (λ e. exprWords e ≤ limits .whole) (each wholes (statements a))
+  pub inTypes : Every (λ t. typeWords t ≤ limits .typeWords) (types (actorItems a))
+  pub inWholes : Every (λ e. exprWords e ≤ limits .expressionWords) (each wholes (statements a))

@@ -84,7 +84,7 @@ module _ (p : List ℕ) (present taken : ℕ) (ls : List ℕ) (d : ℕ) where
   pushes Choice (y ∷ x ∷ c ∷ ws) h = sym (over-enough 3 (max x y) (y ∷ x ∷ c ∷ ws) ls d (omega arith))
   pushes (Arm n k) [] h = sym (over-few 2 _ [] ls d (omega arith))
   pushes (Arm n k) (y ∷ []) h = sym (over-few 2 _ (y ∷ []) ls d (omega arith))
-  pushes (Arm n k) (y ∷ x ∷ ws) h = over2 (leb (slotWidth t ls k) (limits .wide)) (max x y) x y ws
+  pushes (Arm n k) (y ∷ x ∷ ws) h = over2 (leb (slotWidth t ls k) (limits .expressionWidth)) (max x y) x y ws
   pushes (Keep k w) ws h = absurd (false≢true (sym h))
   pushes (Assign q) ws h = absurd (false≢true (sym h))
   pushes (Write m f n) ws h = absurd (false≢true (sym h))

@@ -34,7 +34,7 @@ pub record Rules : Type 0 where
 
 -- one value more waits: its width is at most 64, and there is room
 unfoldable pub push : ℕ → List ℕ → List ℕ → ℕ → Check
-push w ws ls d = elim (leb w (limits .wide) && ltb (length ws) waiting) [ true ↦ check (w ∷ ws) ls d | false ↦ broken ]
+push w ws ls d = elim (leb w (limits .expressionWidth) && ltb (length ws) waiting) [ true ↦ check (w ∷ ws) ls d | false ↦ broken ]
 
 unfoldable pub test : Bool → Check → Check
 test b c = elim b [ true ↦ c | false ↦ broken ]
@@ -70,7 +70,7 @@ module _ (t : Rules) where
   slotWidth ls k = getD ls k unset
 
   abbrev pub check1 : Item → List ℕ → List ℕ → ℕ → Check
-  check1 (Const w lo hi) ws ls d = test (leb w (limits .wide) && ltb (lo + hi * 2 ^ 32) (2 ^ w)) (push w ws ls d)
+  check1 (Const w lo hi) ws ls d = test (leb w (limits .expressionWidth) && ltb (lo + hi * 2 ^ 32) (2 ^ w)) (push w ws ls d)
   check1 (Port i) ws ls d = test (inputOk i) (push (portAt (t .plan) i) ws ls d)
   check1 (Let k) ws ls d = push (slotWidth ls k) ws ls d
   check1 (Cell m f n) ws ls d = take1 ws (λ x ws. test (memoryOk m f n) (push (memoryWidthAt (t .plan) m) ws ls d))
@@ -80,8 +80,8 @@ module _ (t : Rules) where
   check1 (Before u w) ws ls d = take1 ws (λ x ws. test (eqb x w) (push (unaryWidth u w) ws ls d))
   check1 (Between o m n) ws ls d = take2 ws (λ x y ws. test (eqb x m && eqb y n) (push (binaryWidth o m n) ws ls d))
   check1 Choice ws ls d = take3 ws (λ c x y ws. push (max x y) ws ls d)
-  check1 (Arm n k) ws ls d = take2 ws (λ x y ws. test (leb (slotWidth ls k) (limits .wide)) (push (max x y) ws ls d))
-  check1 (Keep k w) ws ls d = take1 ws (λ x ws. test (ltb k slots && leb x w && leb w (limits .wide)) (check ws (set ls k w) d))
+  check1 (Arm n k) ws ls d = take2 ws (λ x y ws. test (leb (slotWidth ls k) (limits .expressionWidth)) (push (max x y) ws ls d))
+  check1 (Keep k w) ws ls d = take1 ws (λ x ws. test (ltb k slots && leb x w && leb w (limits .expressionWidth)) (check ws (set ls k w) d))
   check1 (Assign p) ws ls d = take1 ws (λ x ws. test (outputOk d p x) (check ws ls (d + 2 ^ p)))
   check1 (Write m f n) ws ls d = take2 ws (λ a x ws. test (memoryOk m f n && leb x (memoryWidthAt (t .plan) m)) (check ws ls d))
   check1 Bad ws ls d = broken

@@ -70,7 +70,7 @@ widthIf false w = unset
 -- the width that an item leaves over x and y, the latest; `unset` where it leaves none
 module _ (t : Rules) (ls : List ℕ) (x y : ℕ) where
   abbrev pub widthOf : Item → ℕ
-  widthOf (Const w lo hi) = widthIf (leb w (limits .wide) && ltb (lo + hi * 2 ^ 32) (2 ^ w)) w
+  widthOf (Const w lo hi) = widthIf (leb w (limits .expressionWidth) && ltb (lo + hi * 2 ^ 32) (2 ^ w)) w
   widthOf (Port i) = widthIf (inputOk t i) (portAt (t .plan) i)
   widthOf (Let k) = slotWidth t ls k
   widthOf (Cell m f n) = widthIf (memoryOk t m f n) (memoryWidthAt (t .plan) m)
@@ -80,7 +80,7 @@ module _ (t : Rules) (ls : List ℕ) (x y : ℕ) where
   widthOf (Before u w) = widthIf (eqb y w) (unaryWidth u w)
   widthOf (Between o m n) = widthIf (eqb x m && eqb y n) (binaryWidth o m n)
   widthOf Choice = max x y
-  widthOf (Arm n k) = widthIf (leb (slotWidth t ls k) (limits .wide)) (max x y)
+  widthOf (Arm n k) = widthIf (leb (slotWidth t ls k) (limits .expressionWidth)) (max x y)
   widthOf (Keep k w) = unset
   widthOf (Assign p) = unset
   widthOf (Write m f n) = unset

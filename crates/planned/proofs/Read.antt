@@ -48,7 +48,7 @@ row-through n t l next a b e = go (earliest l) refl e
     go (some p) q e = let z : _≡_ {A = ℕ} 0 1 = cc in absurd (omega arith)
 
 -- rows 1 to 9 passed: the text's words, its tree, and no faults
-pub record Passed (text : List ℕ) (a : Actor) (b : Bindings) : Type 0 where
+pub record EarlyPassed (text : List ℕ) (a : Actor) (b : Bindings) : Type 0 where
   pub words-of : List Word
   pub lexed : wordsOf text ≡ words words-of
   pub parses : parse words-of ≡ tree a
@@ -59,7 +59,7 @@ pub record Passed (text : List ℕ) (a : Actor) (b : Bindings) : Type 0 where
   pub known : strangers a b ≡ []
   pub settled : unsettled a b ≡ []
 
-judged-through : (text : List ℕ) (ws : List Word) (x : Actor) (y : Bindings) (a : Actor) (b : Bindings) → wordsOf text ≡ words ws → parse ws ≡ tree x → length text ≤ limits .actor → judged ws x y ≡ through a b → Passed text a b
+judged-through : (text : List ℕ) (ws : List Word) (x : Actor) (y : Bindings) (a : Actor) (b : Bindings) → wordsOf text ≡ words ws → parse ws ≡ tree x → length text ≤ limits .actor → judged ws x y ≡ through a b → EarlyPassed text a b
 unfolding judged
 judged-through text ws x y a b l t n e =
     let c = row-through 6 InActor (nameFaults x) _ a b e in
@@ -85,25 +85,25 @@ judged-through text ws x y a b l t n e =
 never : {A : Type 0} {n p : ℕ} {t : Text} {a : Actor} {b : Bindings} → stopped n t p ≡ through a b → A
 never e = let z : _≡_ {A = ℕ} 0 1 = cc in absurd (omega arith)
 
-pub passed : (text bindings : List ℕ) (a : Actor) (b : Bindings) → early text bindings ≡ through a b → Passed text a b
+pub passed : (text bindings : List ℕ) (a : Actor) (b : Bindings) → early text bindings ≡ through a b → EarlyPassed text a b
 unfolding early worded parsed
 passed text bindings a b e = long (leb (length text) (limits .actor)) (leb (length bindings) (limits .bindings)) refl e
   where
-    trees : (ws : List Word) (y : Bindings) (r : Rattle.language.specs.Reader.Verdict Actor) → wordsOf text ≡ words ws → length text ≤ limits .actor → parse ws ≡ r → _≡_ {A = Early} (elim r [ tree x ↦ judged ws x y | fault i ↦ stopped 5 InActor (Rattle.language.specs.Reading.wordPlace (length text) ws i) | tired ↦ stopped 5 InActor 0 ]) (through a b) → Passed text a b
+    trees : (ws : List Word) (y : Bindings) (r : Rattle.language.specs.Reader.Verdict Actor) → wordsOf text ≡ words ws → length text ≤ limits .actor → parse ws ≡ r → _≡_ {A = Early} (elim r [ tree x ↦ judged ws x y | fault i ↦ stopped 5 InActor (Rattle.language.specs.Reading.wordPlace (length text) ws i) | tired ↦ stopped 5 InActor 0 ]) (through a b) → EarlyPassed text a b
     trees ws y (tree x) l n q e = judged-through text ws x y a b l q n e
     trees ws y (fault i) l n q e = never e
     trees ws y tired l n q e = never e
 
-    lex : (y : Bindings) (r : Lexed) → length text ≤ limits .actor → wordsOf text ≡ r → _≡_ {A = Early} (elim r [ badAt p ↦ stopped 3 InActor p | words ws ↦ row 4 InActor (leftOut ws) (parsed (length text) ws y) ]) (through a b) → Passed text a b
+    lex : (y : Bindings) (r : Lexed) → length text ≤ limits .actor → wordsOf text ≡ r → _≡_ {A = Early} (elim r [ badAt p ↦ stopped 3 InActor p | words ws ↦ row 4 InActor (leftOut ws) (parsed (length text) ws y) ]) (through a b) → EarlyPassed text a b
     lex y (badAt p) n q e = never e
     lex y (words ws) n q e = trees ws y (parse ws) q n refl (row-through 4 InActor (leftOut ws) (parsed (length text) ws y) a b e .1)
 
-    bind : (r : Rattle.language.specs.Bindings.Bound) → length text ≤ limits .actor → _≡_ {A = Early} (elim r [ wrongAt p ↦ stopped 2 InBindings p | bound y ↦ worded text y ]) (through a b) → Passed text a b
+    bind : (r : Rattle.language.specs.Bindings.Bound) → length text ≤ limits .actor → _≡_ {A = Early} (elim r [ wrongAt p ↦ stopped 2 InBindings p | bound y ↦ worded text y ]) (through a b) → EarlyPassed text a b
     bind (wrongAt p) n e = never e
     bind (bound y) n e = lex y (wordsOf text) n refl e
 
     long : (u v : Bool) → leb (length text) (limits .actor) ≡ u
-        → _≡_ {A = Early} (elim u [ false ↦ stopped 1 InActor (limits .actor) | true ↦ elim v [ false ↦ stopped 1 InBindings (limits .bindings) | true ↦ elim (bindingsOf bindings) [ wrongAt p ↦ stopped 2 InBindings p | bound y ↦ worded text y ] ] ]) (through a b) → Passed text a b
+        → _≡_ {A = Early} (elim u [ false ↦ stopped 1 InActor (limits .actor) | true ↦ elim v [ false ↦ stopped 1 InBindings (limits .bindings) | true ↦ elim (bindingsOf bindings) [ wrongAt p ↦ stopped 2 InBindings p | bound y ↦ worded text y ] ] ]) (through a b) → EarlyPassed text a b
     long false v q e = never e
     long true false q e = never e
     long true true q e = bind (bindingsOf bindings) (leb-true (length text) (limits .actor) q) e
@@ -112,7 +112,7 @@ passed text bindings a b e = long (leb (length text) (limits .actor)) (leb (leng
 
 -- the texts were read so, with these words
 pub record Read (text : List ℕ) (s : Setting) : Type 0 where
-  pub passes : Passed text (s .actor) (s .bindings)
+  pub passes : EarlyPassed text (s .actor) (s .bindings)
   pub is : Accepted (passes .words-of) s
 
 pub reads-accepted : (text bindings : List ℕ) (x : Answer) (s : Setting) → Reads text bindings x → x ≡ accepted s → Read text s

@@ -32,7 +32,7 @@ nodesT e (within p t) = nodesT e t
 
 -- ---- the code of the type, where its names are resolved alike
 
-pub number-node : (x : ℕ) → x ≤ limits .constant → numberNode x ≡ x * 8
+pub number-node : (x : ℕ) → x ≤ limits .typeNumber → numberNode x ≡ x * 8
 unfolding numberNode
 number-node x h = let e : x % 65536 ≡ x = omega arith in ap (λ (y : ℕ). y * 8) e
 
@@ -60,7 +60,7 @@ module _ (e : Env) where
   takes-both : {a b : List ℕ} (x y : List ℕ) → Takes a x → Takes b y → Takes (a ++ b) (x ++ y)
   takes-both {a} {b} x y c d =
       record {
-        on = λ g l r. ap (soughtIn e g l) (append-assoc a b r) ∙ c .on g l (b ++ r) ∙ d .on g (capped (l ++ x)) r ∙ ap (λ (z : List ℕ). soughtIn e g z r) (cap-both (limits .words) (l ++ x) y ∙ ap capped (append-assoc l x y));
+        on = λ g l r. ap (soughtIn e g l) (append-assoc a b r) ∙ c .on g l (b ++ r) ∙ d .on g (capped (l ++ x)) r ∙ ap (λ (z : List ℕ). soughtIn e g z r) (cap-both (limits .typeWords) (l ++ x) y ∙ ap capped (append-assoc l x y));
       }
 
   takes-item : (o p v x : ℕ) → ((g : Goal) (l r : List ℕ) → soughtIn e g l (item o p v ++ r) ≡ soughtIn e g (capped (l ++ (x ∷ []))) r) → Takes (item o p v) (x ∷ [])

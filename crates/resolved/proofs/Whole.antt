@@ -23,7 +23,7 @@ use Rattle.placed.proofs.Placed.{placed}
 use Rattle.placed.proofs.Worded.{parsed-short}
 use Rattle.known.specs.Walk.{placeAt}
 use Rattle.typing.specs.Terms.{Term, number, port, log, floor, ceil, plus, minus, greater, code, TypeOf}
-use Rattle.typing.specs.Walk.{Stands}
+use Rattle.typing.specs.Walk.{TermStands}
 use Rattle.typing.specs.Solved.{Coded, Answer, termOf, termsOf}
 use Rattle.typing.proofs.Rules.{none-left, none-right}
 use Rattle.typing.proofs.Bridge.{as-many, found, not-found}
@@ -141,7 +141,7 @@ module _ (text t : List ℕ) (n : ℕ) (btext table : List ℕ) (k m : ℕ) {ws 
   declared-code : (d : Declared) {c : ℕ} → TypeOf c (termOf a b (typeWant d)) → someNodes (nodesD e d) ≡ code (termOf a b (typeWant d))
   unfolding typeWant termOf nodesD
   declared-code untyped r = none-code
-  declared-code (Declared.typed u) {c} r = ap someNodes (ap capped (nodes-code e (index (spelledOf (a .signature))) (valueIn (b .values)) places values c u (r .fine)) ∙ take-all (limits .words) _ (r .short)) ∙ some-code _
+  declared-code (Declared.typed u) {c} r = ap someNodes (ap capped (nodes-code e (index (spelledOf (a .signature))) (valueIn (b .values)) places values c u (r .fine)) ∙ take-all (limits .typeWords) _ (r .short)) ∙ some-code _
 
   -- the name of port i
   name-of : (i : ℕ) → i < length (a .signature) → getD (spelledOf (a .signature)) i [] ≡ nameFrom text (placeAt t (i + 1))
@@ -223,7 +223,7 @@ module _ (text t : List ℕ) (n : ℕ) (btext table : List ℕ) (k m : ℕ) {ws 
     slotted : Slotted e n cells starts ends all
     slotted = subst (λ (j : ℕ). Slotted (env text t btext table k m j) n cells starts ends all) p s
 
-    stand : (i : ℕ) → i < length (wants a b) → Stands (termOf a b (getD (wants a b) i (exactly 0))) cells (getD (take all starts) i 0) (getD (take all ends) i 0)
+    stand : (i : ℕ) → i < length (wants a b) → TermStands (termOf a b (getD (wants a b) i (exactly 0))) cells (getD (take all starts) i 0) (getD (take all ends) i 0)
     stand i f =
         let w = wants-long in
         let g : i < all = omega arith in

@@ -122,7 +122,7 @@ valueOf e s = valueOr (e .table) (e .k + index (namesOn (e .btext) (e .table) (e
 -- ---- nodes
 
 unfoldable pub numberNode : ℕ → ℕ
-numberNode x = x % (limits .constant + 1) * 8
+numberNode x = x % (limits .typeNumber + 1) * 8
 
 unfoldable pub nodeOf : Env → (o p v : ℕ) → ℕ
 nodeOf e o p v =
@@ -145,7 +145,7 @@ nodeOf e o p v =
 
 -- as many nodes as a slot holds
 abbrev pub capped : List ℕ → List ℕ
-capped l = take (limits .words) l
+capped l = take (limits .typeWords) l
 
 -- the nodes of the type before an item, with that item
 unfoldable pub grownOf : Role → List ℕ → ℕ → List ℕ
@@ -216,13 +216,13 @@ wantNodes e n i = elim (ltb i (e .ports)) [ true ↦ portNodes e n (placeAt (e .
 -- ---- a slot of the code, from a place on: r numbers, which are l, and nothing before the place is other than it was
 
 pub record Filled (code code' : List ℕ) (at r : ℕ) (l : List ℕ) : Type 0 where
-  pub few : r ≤ limits .words
+  pub few : r ≤ limits .typeWords
   pub is : take r (drop at code') ≡ l
   pub before : take at code' ≡ take at code
   pub long : length code' ≡ length code
 
 -- the first i slots hold the first i wanted widths
 pub record Slotted (e : Env) (n : ℕ) (code starts ends : List ℕ) (i : ℕ) : Type 0 where
-  pub start : (j : ℕ) → j < i → getD starts j 0 ≡ limits .words * j
-  pub end : (j : ℕ) → j < i → (limits .words * j ≤ getD ends j 0) × (getD ends j 0 ≤ limits .words * j + limits .words)
-  pub is : (j : ℕ) → j < i → take (getD ends j 0 - limits .words * j) (drop (limits .words * j) code) ≡ wantNodes e n j
+  pub start : (j : ℕ) → j < i → getD starts j 0 ≡ limits .typeWords * j
+  pub end : (j : ℕ) → j < i → (limits .typeWords * j ≤ getD ends j 0) × (getD ends j 0 ≤ limits .typeWords * j + limits .typeWords)
+  pub is : (j : ℕ) → j < i → take (getD ends j 0 - limits .typeWords * j) (drop (limits .typeWords * j) code) ≡ wantNodes e n j

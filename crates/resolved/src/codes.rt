@@ -207,7 +207,7 @@ fn node(
 
 // One node more in a slot, as far as it reaches: row 7 has passed, so it is never full.
 fn append(code: &mut [u32], at: usize, len: usize, x: u32) -> usize
-    requires { ⌜ (len ≤ limits .words) × (at + limits .words ≤ length (now code)) ⌝ }
+    requires { ⌜ (len ≤ limits .typeWords) × (at + limits .typeWords ≤ length (now code)) ⌝ }
     ensures { λ r. ⌜ Filled (now (code .entry)) (now (code .exit)) at r (capped (take len (drop at (now (code .entry))) ++ (x ∷ []))) ⌝ }
 {
     if len < WORDS {
@@ -269,7 +269,7 @@ fn type_code(
     at: usize,
 ) -> usize
     requires { ⌜ (n ≤ length (now tape)) × (3 * ports + 3 ≤ length (now tape)) × (3 * (k + m) ≤ length (now table)) × (ports ≤ limits .ports) ⌝ }
-    requires { ⌜ at + limits .words ≤ length (now code) ⌝ }
+    requires { ⌜ at + limits .typeWords ≤ length (now code) ⌝ }
     ensures { λ r. ⌜ Filled (now (code .entry)) (now (code .exit)) at r (soughtIn (env (now (text .entry)) (now (tape .entry)) (now (btext .entry)) (now (table .entry)) k m ports) goal [] (take n (now (tape .entry)))) ⌝ }
 {
     let mut g = goal;
@@ -325,7 +325,7 @@ fn grown(
     len: usize,
 ) -> usize
     requires { ⌜ (3 * i + 2 < length (now tape)) × (3 * ports + 3 ≤ length (now tape)) × (3 * (k + m) ≤ length (now table)) × (ports ≤ limits .ports) ⌝ }
-    requires { ⌜ (len ≤ limits .words) × (at + limits .words ≤ length (now code)) ⌝ }
+    requires { ⌜ (len ≤ limits .typeWords) × (at + limits .typeWords ≤ length (now code)) ⌝ }
     ensures { λ r. ⌜ Filled (now (code .entry)) (now (code .exit)) at r (grownOf role (take len (drop at (now (code .entry)))) (nodeOf (env (now (text .entry)) (now (tape .entry)) (now (btext .entry)) (now (table .entry)) k m ports) (opAt (now (tape .entry)) i) (placeAt (now (tape .entry)) i) (valueAt (now (tape .entry)) i))) ⌝ }
 {
     match role {
@@ -342,7 +342,7 @@ fn grown(
 
 // A single number in a slot.
 fn single(code: &mut [u32], at: usize, x: u32) -> usize
-    requires { ⌜ at + limits .words ≤ length (now code) ⌝ }
+    requires { ⌜ at + limits .typeWords ≤ length (now code) ⌝ }
     ensures { λ r. ⌜ Filled (now (code .entry)) (now (code .exit)) at r (numberNode x ∷ []) ⌝ }
 {
     append(code, at, 0, number_node(x))
@@ -350,7 +350,7 @@ fn single(code: &mut [u32], at: usize, x: u32) -> usize
 
 // A slot that is not empty: where there is no type, the number 0.
 fn some(code: &mut [u32], at: usize, len: usize) -> usize
-    requires { ⌜ (len ≤ limits .words) × (at + limits .words ≤ length (now code)) ⌝ }
+    requires { ⌜ (len ≤ limits .typeWords) × (at + limits .typeWords ≤ length (now code)) ⌝ }
     ensures { λ r. ⌜ Filled (now (code .entry)) (now (code .exit)) at r (someNodes (take len (drop at (now (code .entry))))) ⌝ }
 {
     if len == 0 {
@@ -374,7 +374,7 @@ fn port_code(
     at: usize,
 ) -> usize
     requires { ⌜ (n ≤ length (now tape)) × (3 * ports + 3 ≤ length (now tape)) × (3 * (k + m) ≤ length (now table)) × (ports ≤ limits .ports) ⌝ }
-    requires { ⌜ at + limits .words ≤ length (now code) ⌝ }
+    requires { ⌜ at + limits .typeWords ≤ length (now code) ⌝ }
     ensures { λ r. ⌜ Filled (now (code .entry)) (now (code .exit)) at r (portNodes (env (now (text .entry)) (now (tape .entry)) (now (btext .entry)) (now (table .entry)) k m ports) n place) ⌝ }
 {
     let j = found(text, place, btext, table, 0, k);
@@ -411,8 +411,8 @@ pub fn want_code(
     code: &mut [u32],
 ) -> usize
     requires { ⌜ (n ≤ length (now tape)) × (3 * ports + 3 ≤ length (now tape)) × (3 * (k + m) ≤ length (now table)) × (ports ≤ limits .ports) ⌝ }
-    requires { ⌜ limits .words * i + limits .words ≤ length (now code) ⌝ }
-    ensures { λ r. ⌜ Filled (now (code .entry)) (now (code .exit)) (limits .words * i) r (wantNodes (env (now (text .entry)) (now (tape .entry)) (now (btext .entry)) (now (table .entry)) k m ports) n i) ⌝ }
+    requires { ⌜ limits .typeWords * i + limits .typeWords ≤ length (now code) ⌝ }
+    ensures { λ r. ⌜ Filled (now (code .entry)) (now (code .exit)) (limits .typeWords * i) r (wantNodes (env (now (text .entry)) (now (tape .entry)) (now (btext .entry)) (now (table .entry)) k m ports) n i) ⌝ }
 {
     let at = WORDS * i;
     if i < ports {

@@ -95,7 +95,7 @@ FAULTY = 99
 
 -- a width, where there is one: parts of a concatenation may also have 65, which is over 64
 unfoldable pub has : ℕ → Bool
-has w = leb w (limits .wide)
+has w = leb w (limits .expressionWidth)
 
 -- ---- effects put together
 
@@ -188,7 +188,7 @@ module _ (v : Seen) where
   -- ---- the items over expressions
 
   unfoldable pub copiesEffect : ℕ → ℕ → Effect
-  copiesEffect p n = throughOf (has (v .x)) 1 p (Adds 5 n (v .x) 0) (testedOf (leb (n * v .x) (limits .wide)) 1 (n * v .x) p p (Adds 5 n (v .x) 0))
+  copiesEffect p n = throughOf (has (v .x)) 1 p (Adds 5 n (v .x) 0) (testedOf (leb (n * v .x) (limits .expressionWidth)) 1 (n * v .x) p p (Adds 5 n (v .x) 0))
 
   unfoldable pub cellEffect : ℕ → ℕ → ℕ → ℕ → ℕ → Effect
   cellEffect p m f n w = throughOf (has (v .x)) 1 p (Adds 3 m f n) (givesOf 1 w p Nowhere (Adds 3 m f n))

@@ -9,7 +9,7 @@ use lib.Seq.{sets}
 use Rattle.language.specs.Words.{Word}
 use Rattle.language.specs.Reader.{Res, ok, bad, dry, bind}
 use Rattle.syntax.specs.Marks.{count, kindAt}
-use Rattle.syntax.specs.Meets.{On, Inside, Went, Stopped, MovedTo, Moved, Agrees, read, fault, Stands, StandsAt, Closes, closes, missing, faulty}
+use Rattle.syntax.specs.Meets.{On, Inside, Went, Stopped, MovedTo, Moved, Agrees, read, fault, WordStands, StandsAt, Closes, closes, missing, faulty}
 use Rattle.syntax.specs.declared.Out.{Out}
 use Rattle.syntax.specs.declared.Out.the-variants.{At, Bad}
 
@@ -57,10 +57,10 @@ moved-more {len} {at} {n} {x} {m} {o} w v = go o w (v .to)
     go (At y p) w v = record { to = omega arith }
     go (Bad i) w v = record { to = v }
 
-pub stands : {w : List ℕ} {at n : ℕ} {o : Out} → count w ≤ 8192 → Moved (count w) at n o → Stands w o
+pub stands : {w : List ℕ} {at n : ℕ} {o : Out} → count w ≤ 8192 → Moved (count w) at n o → WordStands w o
 stands {w} {at} {n} {o} h v = go o h (v .to)
   where
-    go : (o : Out) → count w ≤ 8192 → MovedTo (count w) at n o → Stands w o
+    go : (o : Out) → count w ≤ 8192 → MovedTo (count w) at n o → WordStands w o
     go (At y p) h v = record { to = omega arith }
     go (Bad i) h v = record { to = tt }
 

@@ -14,7 +14,7 @@ use Rattle.words.specs.Table.{wordOf, wordAt}
 use Rattle.words.proofs.Spelled.{same-eq}
 use Rattle.syntax.specs.Tape.{MEMORY, one-if}
 use Rattle.syntax.specs.Marks.{count, placeAt, longAt, valueAt, spelledAt, isP, isType, isMemory, Marked}
-use Rattle.syntax.specs.Marking.{Held, spelledMark, nameMark, IsSpelled, Remarked, placesOn, runsAt}
+use Rattle.syntax.specs.Marking.{WordsHeld, spelledMark, nameMark, IsSpelled, Remarked, placesOn, runsAt}
 
 -- ---- the mark of a spelling
 
@@ -184,14 +184,14 @@ module _ {text : List ℕ} {ms : List (List ℕ)} {w w′ : List ℕ} (r : Remar
       go true e k p l = rw (k, p, l, eqb-true (getD w (4 * i) 0) 2 e)
       go false e k p l = rw (k, p, l, r .other i (eqb-false _ _ e))
 
-  module _ {ws : List Word} (H : Held text w ws) where
+  module _ {ws : List Word} (H : WordsHeld text w ws) where
     same-words : (i : ℕ) → i < count w → drop i ws ≡ wordAt text w′ i ∷ drop (i + 1) ws
     same-words i h = H .word i h ∙ ap (λ (x : Word). x ∷ drop (i + 1) ws) (same-word i)
 
     inside : (i : ℕ) → i < count w′ → i < count w
     inside i h = let e = same-count in omega arith
 
-    pub held-again : Held text w′ ws
+    pub held-again : WordsHeld text w′ ws
     held-again = record {
       lexed = H .lexed;
       many = H .many ∙ sym same-count;

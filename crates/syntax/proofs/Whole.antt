@@ -29,7 +29,7 @@ use Rattle.syntax.specs.Tape.{flats, flatGroup, flatActor}
 use Rattle.syntax.specs.Marks.{count, placeAt, Marked}
 use Rattle.syntax.specs.Meets.{On, Moved, Agrees, read, fault as faulty, Closes}
 use Rattle.syntax.specs.Heads.{Head, headP, flatHead, actorOf, IsHead}
-use Rattle.syntax.specs.Marking.{Held, Taped, Remarked, placesOn, runsAt, memoriesOn}
+use Rattle.syntax.specs.Marking.{WordsHeld, Taped, Remarked, placesOn, runsAt, memoriesOn}
 use Rattle.syntax.specs.Read.{treeSaid, wordsSaid, saidOf, treeAfter, wordsAfter, tapeAfter, Filed, Ready, Listed, groupsP, Judged, accepted, refused, IsEnding, IsTree, IsParsed, placeOr}
 use Rattle.syntax.specs.declared.Out.{Out}
 use Rattle.syntax.specs.declared.Out.the-variants.{At, Bad}
@@ -88,7 +88,7 @@ module _ {text w : List ℕ} {n : ℕ} (L : Listed text w n) where
         numbers =
             let a = beside (4 * i) (omega arith) in let b = beside (4 * i + 1) (omega arith) in let c = beside (4 * i + 2) (omega arith) in let d = beside (4 * i + 3) (omega arith) in cc
 
-  pub listed-held : Held text (set w 32768 n) (L .ws)
+  pub listed-held : WordsHeld text (set w 32768 n) (L .ws)
   unfolding filed
   listed-held = record { lexed = L .lexed; many = sym counted; word = λ i h. word-there i (let e = counted in omega arith) }
 
@@ -237,7 +237,7 @@ place-of text (suc (suc zero)) p n v = refl
 place-of text (suc (suc (suc zero))) p n v = refl
 place-of text (suc (suc (suc (suc k)))) p n v = refl
 
-pub word-place : {text w : List ℕ} {ws : List Word} → Held text w ws → (end i : ℕ) → placeOr end w i ≡ wordPlace end ws i
+pub word-place : {text w : List ℕ} {ws : List Word} → WordsHeld text w ws → (end i : ℕ) → placeOr end w i ≡ wordPlace end ws i
 unfolding wordAt
 word-place {text} {w} {ws} H end i = go (ltb i (count w)) refl
   where
@@ -297,7 +297,7 @@ read-as (read {e = e} on) = record { thing = e; is = refl; on = on }
 bad-as : {A : Type 0} {fl : A → List ℕ} {ws : List Word} {n : ℕ} {t t′ : List ℕ} {u : Res A} {i : ℕ} → Agrees fl ws n t u (Bad i) t′ → u ≡ bad (drop i ws)
 bad-as faulty = refl
 
-module _ {text w t t₁ : List ℕ} {ws : List Word} {o : Out} (H : Held text w ws) (M : Marked text [] w ws) (few : count w ≤ 8192) (long : length t ≡ 24576) (hd : IsHead w 0 0 t o t₁) where
+module _ {text w t t₁ : List ℕ} {ws : List Word} {o : Out} (H : WordsHeld text w ws) (M : Marked text [] w ws) (few : count w ≤ 8192) (long : length t ≡ 24576) (hd : IsHead w 0 0 t o t₁) where
   fuel : 8 * count w + 0 < 16 * length ws + 16 + 8 * 0
   fuel = let m = H .many in omega arith
 
@@ -382,7 +382,7 @@ pub judged-as : {s t′ : List ℕ} {v : Verdict Actor} {o o′ : Out} → o ≡
 judged-as {s} {t′} {v} e j = subst (λ (o : Out). Judged s v o t′) e j
 
 module _ {text w w₁ : List ℕ} (F : Filed text w) (R : Remarked text [] (count w) w w₁) where
-  filed-marked : {ws : List Word} → Held text w ws → Marked text [] w₁ ws
+  filed-marked : {ws : List Word} → WordsHeld text w ws → Marked text [] w₁ ws
   filed-marked H = marked-of R H
 
   few-marked : count w₁ ≤ 8192
@@ -395,7 +395,7 @@ module _ {text w w₁ : List ℕ} (F : Filed text w) (R : Remarked text [] (coun
     pub few-read : count w₂ ≤ 8192
     few-read = let e = T .counted in let f = few-marked in omega arith
 
-    verdict : {ws : List Word} → Held text w ws → Judged s (parse ws) r s′
+    verdict : {ws : List Word} → WordsHeld text w ws → Judged s (parse ws) r s′
     verdict H = T .judged (held-again R H) (filed-marked H)
 
     module _ {x m : ℕ} (q : r ≡ At x m) where

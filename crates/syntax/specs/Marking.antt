@@ -12,7 +12,7 @@ use Rattle.syntax.specs.Tape.{MEMORY, one-if}
 use Rattle.syntax.specs.Marks.{count, placeAt, longAt, valueAt, spelledAt}
 
 -- the table w holds the words ws of a text, whatever the marks of its names
-pub record Held (text w : List ℕ) (ws : List Word) : Type 0 where
+pub record WordsHeld (text w : List ℕ) (ws : List Word) : Type 0 where
   pub lexed : wordsOf text ≡ words ws
   pub many : length ws ≡ count w
   pub word : (i : ℕ) → i < count w → drop i ws ≡ wordAt text w i ∷ drop (i + 1) ws

@@ -110,7 +110,7 @@ abbrev pub StandsAt : List ℕ → Out → Type 0
 StandsAt w (At x m) = Inside w x
 StandsAt w (Bad i) = Unit {0}
 
-pub record Stands (w : List ℕ) (o : Out) : Type 0 where
+pub record WordStands (w : List ℕ) (o : Out) : Type 0 where
   pub to : StandsAt w o
 
 -- a reader p of lists, given enough fuel: more than its measure, 8 for each word that is left and its rank

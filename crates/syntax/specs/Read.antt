@@ -19,7 +19,7 @@ use Rattle.syntax.specs.Tape.{flatActor}
 use Rattle.syntax.specs.Marks.{count, placeAt, Marked}
 use Rattle.syntax.specs.Meets.{On, Moved}
 use Rattle.syntax.specs.Heads.{Head, flatHead, actorOf}
-use Rattle.syntax.specs.Marking.{Held, Tabled}
+use Rattle.syntax.specs.Marking.{WordsHeld, Tabled}
 use Rattle.syntax.specs.declared.Out.{Out}
 use Rattle.syntax.specs.declared.Out.the-variants.{At, Bad}
 use Rattle.syntax.specs.declared.Said.{Said}
@@ -62,13 +62,13 @@ Roomy (Refused n p) = Unit {0}
 -- the words of a text in the table, with room for more; and their names marked, but for memories
 pub record Filed (text w : List ℕ) : Type 0 where
   pub ws : List Word
-  pub held : Held text w ws
+  pub held : WordsHeld text w ws
   pub table : Tabled w
   pub short : length text ≤ 8192
 
 pub record Ready (text w : List ℕ) : Type 0 where
   pub ws : List Word
-  pub held : Held text w ws
+  pub held : WordsHeld text w ws
   pub table : Tabled w
   pub marked : Marked text [] w ws
 
@@ -100,8 +100,8 @@ pub record IsEnding (w : List ℕ) (at n : ℕ) (t : List ℕ) (r : Out) (t′ :
 pub record IsTree (text w t : List ℕ) (r : Out) (w′ t′ : List ℕ) : Type 0 where
   pub moved : Moved (count w) 0 0 r
   pub counted : count w′ ≡ count w
-  pub held : {ws : List Word} → Held text w ws → Held text w′ ws
-  pub judged : {ws : List Word} → Held text w ws → Marked text [] w ws → Judged t (parse ws) r t′
+  pub held : {ws : List Word} → WordsHeld text w ws → WordsHeld text w′ ws
+  pub judged : {ws : List Word} → WordsHeld text w ws → Marked text [] w ws → Judged t (parse ws) r t′
 
 -- the place of a word, or the end of the text where there is none
 abbrev pub placeOr : ℕ → List ℕ → ℕ → ℕ
@@ -109,6 +109,6 @@ placeOr end w i = elim (ltb i (count w)) [ true ↦ placeAt w i | false ↦ end 
 
 -- the answer and the tape, whatever words the table holds
 pub record IsParsed (text w t : List ℕ) (r : Said) (t′ : List ℕ) : Type 0 where
-  pub answer : {ws : List Word} → Held text w ws → r ≡ treeSaid (length text) ws (parse ws)
-  pub tape : {ws : List Word} → Held text w ws → t′ ≡ treeAfter (parse ws) t
+  pub answer : {ws : List Word} → WordsHeld text w ws → r ≡ treeSaid (length text) ws (parse ws)
+  pub tape : {ws : List Word} → WordsHeld text w ws → t′ ≡ treeAfter (parse ws) t
   pub room : Roomy r

@@ -5,7 +5,7 @@ ghost use mathlib.Core.Path.{_≡_};
 ghost use Prim.Native.Nat.{ℕ, _+_, _≤_, _<_};
 ghost use Rattle.syntax.specs.Marks.{count, kindAt, placeAt, longAt, valueAt, isMark, isMemory, theP, theType};
 ghost use Rattle.syntax.specs.Tape.{one-if};
-ghost use Rattle.syntax.specs.Meets.{Inside, Sum, Within, Kind, Level, Stands, Closes, Ends};
+ghost use Rattle.syntax.specs.Meets.{Inside, Sum, Within, Kind, Level, WordStands, Closes, Ends};
 
 pub fn wide(x: u32) -> usize
     ensures { λ r. ⌜ r ≡ x ⌝ }
@@ -93,7 +93,7 @@ pub fn sum(k: u32) -> u32
 
 // What a reader answered, and then a word of the kind kw.
 pub fn closed(words: &Table, o: Out, kw: u32) -> Out
-    requires { ⌜ Stands (now words) o ⌝ }
+    requires { ⌜ WordStands (now words) o ⌝ }
     ensures { λ r. ⌜ Closes (now (words .entry)) kw o r ⌝ }
 {
     match o {

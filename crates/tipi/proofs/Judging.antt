@@ -19,7 +19,7 @@ use Rattle.words.specs.Found.{placeTold}
 use Rattle.words.specs.declared.Place.{Place}
 use Rattle.words.specs.declared.Place.the-variants.{At, Nowhere}
 use Rattle.resolved.specs.Row.{Passed}
-use Rattle.tipi.specs.Told.{answerOf, tableAfter, Told, Follows, stops, After, verdictOf, Held, Heard}
+use Rattle.tipi.specs.Told.{answerOf, tableAfter, Told, Follows, stops, After, verdictOf, TextsHeld, Heard}
 use Rattle.tipi.specs.declared.Answer.{Answer}
 use Rattle.tipi.specs.declared.Answer.the-variants.{Plan, Refused}
 use Rattle.tipi.specs.declared.rows.Verdict.{Verdict}
@@ -104,7 +104,7 @@ judged-through ws a b f =
     let h = row-through 9 InActor (unsettled a b) _ (g .1) in
     record { passed = record { names = c .0; limited = d .0; typed = e .0 }; known = g .0; settled = h .0; whole = c .2 ∙ d .2 ∙ e .2 ∙ g .2 ∙ h .2 }
 
-pub heard : {text t btext table : List ℕ} {n k m : ℕ} {ws : List Word} {a : Actor} {b : Bindings} → Held text t n btext table k m ws a b → Clean ws a b → Heard text t n btext table k m ws a b
+pub heard : {text t btext table : List ℕ} {n k m : ℕ} {ws : List Word} {a : Actor} {b : Bindings} → TextsHeld text t n btext table k m ws a b → Clean ws a b → Heard text t n btext table k m ws a b
 heard h c = record { asked = record { tells = h .tells; binds = h .binds; passed = c .passed }; known = c .known; settled = c .settled }
 
 pub after-as : {e f : Early} {r : Answer} {before after : List ℕ} → f ≡ e → After e r before after → After f r before after

@@ -30,7 +30,7 @@ use Rattle.bindings.specs.declared.Answer.the-variants.{Bound as IsBound, Wrong
 use Rattle.known.specs.Row.{Tells}
 use Rattle.binds.specs.Lines.{Binds}
 use Rattle.binds.proofs.Tables.{Filled, read-fills}
-use Rattle.tipi.specs.Told.{answerOf, tableAfter, Told, Follows, stops, goes, After, Held, Read}
+use Rattle.tipi.specs.Told.{answerOf, tableAfter, Told, Follows, stops, goes, After, TextsHeld, Read}
 use Rattle.tipi.specs.declared.Answer.{Answer}
 use Rattle.tipi.specs.declared.Answer.the-variants.{Plan, Refused}
 
@@ -128,7 +128,7 @@ tape-size text t h e = ap length e ∙ tape-long text t ∙ h
 pub record Met (text t btext table : List ℕ) (n k m : ℕ) (b : Bindings) : Type 0 where
   pub ws : List Word
   pub actor : Actor
-  pub held : Held text t n btext table k m ws actor b
+  pub held : TextsHeld text t n btext table k m ws actor b
   pub whole : worded text b ≡ judged ws actor b
 
 pub few-numbers : {r : Said} {n : ℕ} → Roomy r → r ≡ IsTape n → n ≤ 24576

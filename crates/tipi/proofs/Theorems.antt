@@ -55,7 +55,7 @@ read-decided {text} {bindings} {before = before} h k =
 -- ---- what a plan means
 
 -- a plan that was given: the setting that the texts were read as, its plan at the table's start, and all that holds of it
-pub record Given (text bindings after : List ℕ) (l : ℕ) : Type 0 where
+pub record PlanGiven (text bindings after : List ℕ) (l : ℕ) : Type 0 where
   pub setting : Setting
   pub reads : Reads text bindings (accepted setting)
   pub plan : take l after ≡ planOf setting
@@ -80,7 +80,7 @@ module _ (text bindings before after : List ℕ) (l : ℕ) where
       ap (take l) (f ∙ sets-eq (planOf s) before 0 (omega (arith, h))) ∙ take-at (planOf s) _ l (sym n)
   roomy s false q e f = absurd (subst is-plan e tt)
 
-  given : (x : Reading.Answer) → Reads text bindings x → Plan l ≡ answerOf x before → after ≡ tableAfter x before → Given text bindings after l
+  given : (x : Reading.Answer) → Reads text bindings x → Plan l ≡ answerOf x before → after ≡ tableAfter x before → PlanGiven text bindings after l
   unfolding answerOf tableAfter madeOf Making.tableAfter
   given (refused n t p) r e f = absurd (subst is-plan e tt)
   given (accepted s) r e f =
@@ -89,5 +89,5 @@ module _ (text bindings before after : List ℕ) (l : ℕ) where
 
 -- demand 3: where `read` answers with a plan, the first numbers of the table are the plan of what the texts were read as; `Planned` says that it is
 -- sound and short, that its widths are the least ones, and that each cycle and any run of cycles of it is what the texts mean
-pub read-given : {text bindings before after : List ℕ} {l : ℕ} → Read text bindings (Plan l) before after → Given text bindings after l
+pub read-given : {text bindings before after : List ℕ} {l : ℕ} → Read text bindings (Plan l) before after → PlanGiven text bindings after l
 read-given {text} {bindings} {before} {after} {l} h = given text bindings before after l (h .what) (h .reads) (h .told .answer) (h .told .table)

@@ -67,7 +67,7 @@ verdictOf (stopped n t p) = Stopped n t p
 verdictOf (through a b) = Through
 
 -- a tape and a table that hold an actor and its bindings
-pub record Held (text t : List ℕ) (n : ℕ) (btext table : List ℕ) (k m : ℕ) (ws : List Word) (a : Actor) (b : Bindings) : Type 0 where
+pub record TextsHeld (text t : List ℕ) (n : ℕ) (btext table : List ℕ) (k m : ℕ) (ws : List Word) (a : Actor) (b : Bindings) : Type 0 where
   pub short : length text ≤ limits .actor
   pub tells : Tells text t n ws a
   pub binds : Binds btext table k m b

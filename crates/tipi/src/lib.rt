@@ -23,7 +23,7 @@ ghost use Rattle.language.specs.Bindings.{Bindings};
 ghost use Rattle.language.specs.Reading.{judged as Reading·judged};
 ghost use Rattle.language.specs.Reading.{worded as Reading·worded};
 ghost use Rattle.binds.specs.Lines.{Binds};
-ghost use Rattle.tipi.specs.Told.{Read, After, Held};
+ghost use Rattle.tipi.specs.Told.{Read, After, TextsHeld};
 
 // The plan's length, or a refusal with its number, its text and its place.
 pub enum Answer {
@@ -43,8 +43,8 @@ fn judged(
     plan: &mut [u32],
 ) -> Answer
     requires { ⌜ (n ≤ length (now tape)) × (n ≤ 24576) × (3 * (k + m) ≤ length (now table)) ⌝ }
-    requires { ⌜ ((ws : List Word) × (a : Actor) × (b : Bindings) × Held (now text) (now tape) n (now btext) (now table) k m ws a b) ⌝ }
-    ensures { λ r. ⌜ ((ws : List Word) (a : Actor) (b : Bindings) → Held (now (text .entry)) (now (tape .entry)) n (now (btext .entry)) (now (table .entry)) k m ws a b → After (Reading·judged ws a b) r (now (plan .entry)) (now (plan .exit))) ⌝ }
+    requires { ⌜ ((ws : List Word) × (a : Actor) × (b : Bindings) × TextsHeld (now text) (now tape) n (now btext) (now table) k m ws a b) ⌝ }
+    ensures { λ r. ⌜ ((ws : List Word) (a : Actor) (b : Bindings) → TextsHeld (now (text .entry)) (now (tape .entry)) n (now (btext .entry)) (now (table .entry)) k m ws a b → After (Reading·judged ws a b) r (now (plan .entry)) (now (plan .exit))) ⌝ }
 {
     match first(text, tape, n, btext, table, k, m) {
         Verdict::Stopped(row, which, place) => Answer::Refused(row, which, place),

@@ -9,7 +9,7 @@ ghost use Rattle.language.specs.Words.{Word};
 ghost use Rattle.language.specs.Tree.{Actor};
 ghost use Rattle.language.specs.Bindings.{Bindings};
 ghost use Rattle.language.specs.Reading.{judged};
-ghost use Rattle.tipi.specs.Told.{verdictOf, Held};
+ghost use Rattle.tipi.specs.Told.{verdictOf, TextsHeld};
 
 // The first fault, with its row, text and place, or none.
 pub enum Verdict {
@@ -28,8 +28,8 @@ pub fn first(
     m: usize,
 ) -> Verdict
     requires { ⌜ (n ≤ length (now tape)) × (3 * (k + m) ≤ length (now table)) ⌝ }
-    requires { ⌜ ((ws : List Word) × (a : Actor) × (b : Bindings) × Held (now text) (now tape) n (now btext) (now table) k m ws a b) ⌝ }
-    ensures { λ r. ⌜ ((ws : List Word) (a : Actor) (b : Bindings) → Held (now (text .entry)) (now (tape .entry)) n (now (btext .entry)) (now (table .entry)) k m ws a b → r ≡ verdictOf (judged ws a b)) ⌝ }
+    requires { ⌜ ((ws : List Word) × (a : Actor) × (b : Bindings) × TextsHeld (now text) (now tape) n (now btext) (now table) k m ws a b) ⌝ }
+    ensures { λ r. ⌜ ((ws : List Word) (a : Actor) (b : Bindings) → TextsHeld (now (text .entry)) (now (tape .entry)) n (now (btext .entry)) (now (table .entry)) k m ws a b → r ≡ verdictOf (judged ws a b)) ⌝ }
 {
     match known::fault(text, tape, n) {
         Place::At(p) => return Verdict::Stopped(6, Text::Actor, p),

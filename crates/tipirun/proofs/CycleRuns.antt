@@ -39,7 +39,7 @@ pub record Agrees (s : Setting) : Type 0 where
 
 module _ (s : Setting) (a : Agrees s) where
   -- the machine before a line: the memory and the outputs stand in their tables
-  pub record Stands (m : Machine) (t : State) (memory outputs : List ℕ) : Type 0 where
+  pub record AtLine (m : Machine) (t : State) (memory outputs : List ℕ) : Type 0 where
     pub stage : t .stage ≡ Line
     pub begun : t .begun ≡ false
     pub number : t .number ≡ 0
@@ -51,7 +51,7 @@ module _ (s : Setting) (a : Agrees s) where
     pub size : length memory ≡ length (cellWidths s)
     pub count : length outputs ≡ length (s .actor .signature)
 
-  no-cycles : (m : Machine) (t : State) (memory outputs bs out : List ℕ) → Stands m t memory outputs → t .left ≡ 0 → Enters (stated m t) bs out → out ≡ line memory
+  no-cycles : (m : Machine) (t : State) (memory outputs bs out : List ℕ) → AtLine m t memory outputs → t .left ≡ 0 → Enters (stated m t) bs out → out ≡ line memory
   unfolding passedBy endedOf
   no-cycles m t memory outputs bs out x z y =
       let l : t .left ≤ 0 = omega arith in
@@ -63,7 +63,7 @@ module _ (s : Setting) (a : Agrees s) where
       ∙ ap (λ (p : List ℕ). line (take (cellsOf p) (m .memory))) (x .plan) ∙ ap line (x .cells)
 
   -- a cycle of the machine is a cycle of the text
-  done-is : (m : Machine) (t : State) (memory outputs v : List ℕ) (u : Turn) → Stands m t memory outputs → Slots (planOf s) v → take (portsOf (planOf s)) v ≡ u .values → doneOf (planOf s) (u .mask) v (m .outputs) (m .memory) ≡ cycle s (givenOf u memory) outputs
+  done-is : (m : Machine) (t : State) (memory outputs v : List ℕ) (u : Turn) → AtLine m t memory outputs → Slots (planOf s) v → take (portsOf (planOf s)) v ≡ u .values → doneOf (planOf s) (u .mask) v (m .outputs) (m .memory) ≡ cycle s (givenOf u memory) outputs
   unfolding doneOf
   done-is m t memory outputs v u x w e =
       ap (λ (l : List ℕ). cycleOf (planOf s) (u .mask) l (take (cellsOf (planOf s)) (m .memory)) (take (portsOf (planOf s)) (m .outputs))) e
@@ -72,7 +72,7 @@ module _ (s : Setting) (a : Agrees s) where
 
   -- ---- one cycle: the line that is written for it, and the machine before the next
 
-  module _ (m : Machine) (t : State) (memory outputs v : List ℕ) (u : Turn) (x : Stands m t memory outputs) (w : Slots (planOf s) v) (e : take (portsOf (planOf s)) v ≡ u .values) where
+  module _ (m : Machine) (t : State) (memory outputs v : List ℕ) (u : Turn) (x : AtLine m t memory outputs) (w : Slots (planOf s) v) (e : take (portsOf (planOf s)) v ≡ u .values) where
     line-is : turnedOf t (u .mask) (planOf s) v (m .outputs) (m .memory) .wrote ≡ cycleLine (s .actor) (cycle s (givenOf u memory) outputs)
     unfolding turnedOf outputsAfter
     line-is =
@@ -91,7 +91,7 @@ module _ (s : Setting) (a : Agrees s) where
         ap (λ (o : Outcome). take (portsOf (planOf s)) (o .outputs ++ drop (portsOf (planOf s)) (m .outputs))) (done-is m t memory outputs v u x w e)
         ∙ take-at (cycle s (givenOf u memory) outputs .outputs) (drop (portsOf (planOf s)) (m .outputs)) (portsOf (planOf s)) (cycle-slots s (givenOf u memory) outputs (x .count) ∙ sym (a .ports))
 
-    next-stands : Stands (lined m (turnedOf t (u .mask) (planOf s) v (m .outputs) (m .memory))) (turnedOf t (u .mask) (planOf s) v (m .outputs) (m .memory) .state) (cycle s (givenOf u memory) outputs .memory) (cycle s (givenOf u memory) outputs .outputs)
+    next-stands : AtLine (lined m (turnedOf t (u .mask) (planOf s) v (m .outputs) (m .memory))) (turnedOf t (u .mask) (planOf s) v (m .outputs) (m .memory) .state) (cycle s (givenOf u memory) outputs .memory) (cycle s (givenOf u memory) outputs .outputs)
     unfolding turnedOf
     next-stands =
         record {
@@ -118,9 +118,9 @@ module _ (s : Setting) (a : Agrees s) where
   -- ---- cycle after cycle
 
   abbrev Tells : ℕ → Type 0
-  Tells k = (m : Machine) (t : State) (memory outputs bs out : List ℕ) → Stands m t memory outputs → t .left ≡ k → Enters (stated m t) bs out → out ≡ cycles s k memory outputs bs
+  Tells k = (m : Machine) (t : State) (memory outputs bs out : List ℕ) → AtLine m t memory outputs → t .left ≡ k → Enters (stated m t) bs out → out ≡ cycles s k memory outputs bs
 
-  by-turn : (k : ℕ) → Tells k → (m : Machine) (t : State) (memory outputs out : List ℕ) → Stands m t memory outputs → t .left ≡ suc k → (z : Got Turn) → Turns (planOf s) t m out z
+  by-turn : (k : ℕ) → Tells k → (m : Machine) (t : State) (memory outputs out : List ℕ) → AtLine m t memory outputs → t .left ≡ suc k → (z : Got Turn) → Turns (planOf s) t m out z
       → out ≡ elim z [ lost r ↦ isBad | got u r ↦ cycleLine (s .actor) (cycle s (givenOf u memory) outputs) ++ cycles s k (cycle s (givenOf u memory) outputs .memory) (cycle s (givenOf u memory) outputs .outputs) r ]
   unfolding Turns
   by-turn k ih m t memory outputs out x l (lost r) y = y

@@ -20,7 +20,7 @@ use Rattle.tipi.specs.Told.{answerOf, tableAfter, Read}
 use Rattle.tipi.specs.declared.Answer.{Answer as Told}
 use Rattle.tipi.specs.declared.Answer.the-variants.{Plan, Refused}
 use Rattle.tipirun.specs.Lines.{cellsOf}
-use Rattle.tipirun.specs.Machine.{Machine, passedAt, passedOf, whole, atBindings, planPassed, Judges, Passed, endedAt, endedOf}
+use Rattle.tipirun.specs.Machine.{Machine, passedAt, passedOf, whole, atBindings, planPassed, Judges, StagePassed, endedAt, endedOf}
 
 -- ---- a byte of a text
 
@@ -90,15 +90,15 @@ some-answer = refused 0 InActor 0
 idle : (s : State) (a b : List ℕ) → whole s ≡ false → Judges some-answer s a b
 idle s a b e = record { read = λ t. absurd (false≢true (sym e ∙ t)) }
 
-pub read-on : (s : State) (a b p : List ℕ) → 0 < s .left → Passed s a b p s p
+pub read-on : (s : State) (a b p : List ℕ) → 0 < s .left → StagePassed s a b p s p
 read-on s a b p h = record { what = some-answer; judges = idle s a b (not-whole s h); stands = left-on some-answer s p h; table = left-plan some-answer s p h }
 
 -- at a stage that reads no text
-pub unread : (s r : State) (a b p : List ℕ) (g : Stage) → s .left ≤ 0 → s .stage ≡ g → atBindings g ≡ false → r ≡ passedOf some-answer s p → Passed s a b p r p
+pub unread : (s r : State) (a b p : List ℕ) (g : Stage) → s .left ≤ 0 → s .stage ≡ g → atBindings g ≡ false → r ≡ passedOf some-answer s p → StagePassed s a b p r p
 unread s r a b p g h e f q = record { what = some-answer; judges = idle s a b (whole-at some-answer s g h e ∙ f); stands = q; table = same-plan some-answer s p g h e f }
 
 -- where the texts are read
-pub over-read : (s r : State) (a b p p' : List ℕ) → s .left ≤ 0 → s .stage ≡ Bindings → Judged (take (s .actor) a) (take (s .bindings) b) s p r p' → Passed s a b p r p'
+pub over-read : (s r : State) (a b p p' : List ℕ) → s .left ≤ 0 → s .stage ≡ Bindings → Judged (take (s .actor) a) (take (s .bindings) b) s p r p' → StagePassed s a b p r p'
 over-read s r a b p p' h e j =
     record {
       what = j .what;

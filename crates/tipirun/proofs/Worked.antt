@@ -25,7 +25,7 @@ use Rattle.tipirun.specs.Machine.{Machine, Prints}
 use Rattle.tipirun.proofs.CountLines.{lineEnd}
 use Rattle.tipirun.proofs.Opening.{Ready}
 use Rattle.tipirun.proofs.LineValues.{Slots}
-use Rattle.tipirun.proofs.CycleRuns.{Agrees, Stands, cycles-run}
+use Rattle.tipirun.proofs.CycleRuns.{Agrees, AtLine, cycles-run}
 use Rattle.tipirun.proofs.Signatures.{turns-agree, lines-agree}
 use Rattle.tipirun.proofs.Laying.{reads-laid}
 use Rattle.tipirun.proofs.Spent.{leaves-got, same-cycles, input-leaves, count-leaves}
@@ -56,7 +56,7 @@ zero-slots p =
     let q = few-ports p in
     record { long = (let a = length-replicate {A = ℕ} 16 0 in omega arith); zeros = λ j h f. getD-replicate 16 j 0 0 (omega arith) }
 
-first-stands : (s : Setting) (a : Agrees s) (m : Machine) (n : ℕ) → length (planOf s) ≤ 16_384 → Ready s m → Stands s a m (startOf (m .state) Line n) (replicate (length (cellWidths s)) 0) (replicate (length (s .actor .signature)) 0)
+first-stands : (s : Setting) (a : Agrees s) (m : Machine) (n : ℕ) → length (planOf s) ≤ 16_384 → Ready s m → AtLine s a m (startOf (m .state) Line n) (replicate (length (cellWidths s)) 0) (replicate (length (s .actor .signature)) 0)
 first-stands s a m n h r =
     record {
       stage = refl;

@@ -91,7 +91,7 @@ pub record Judges (x : Answer) (s : State) (actor bindings : List ℕ) : Type 0 
   pub read : whole s ≡ true → Reads (take (s .actor) actor) (take (s .bindings) bindings) x
 
 -- what a state at which nothing is to come goes on with, and the table of the plan
-pub record Passed (s : State) (actor bindings plan : List ℕ) (r : State) (after : List ℕ) : Type 0 where
+pub record StagePassed (s : State) (actor bindings plan : List ℕ) (r : State) (after : List ℕ) : Type 0 where
   pub what : Answer
   pub judges : Judges what s actor bindings
   pub stands : r ≡ passedOf what s plan
@@ -121,7 +121,7 @@ pub data Runs : Machine → List ℕ → Machine → Type 0 where
   goes : {m t r : Machine} {b : ℕ} {bs : List ℕ} → Stepped m b t → Runs (unwritten t) bs r → Runs m (b ∷ bs) (preceded (t .wrote) r)
 
 -- the tables as a function leaves them, and the bytes that wait to be written
-pub record Stands (x : Machine) (old : List ℕ) (at most : ℕ) (r : State) (actor bindings plan values outputs memory out : List ℕ) : Type 0 where
+pub record TablesStand (x : Machine) (old : List ℕ) (at most : ℕ) (r : State) (actor bindings plan values outputs memory out : List ℕ) : Type 0 where
   pub tables : machine r actor bindings plan values outputs memory (x .wrote) ≡ x
   pub bytes : out ≡ sets old at (x .wrote)
   pub place : r .at ≡ at + length (x .wrote)
@@ -130,12 +130,12 @@ pub record Stands (x : Machine) (old : List ℕ) (at most : ℕ) (r : State) (ac
 pub record Steps (m : Machine) (b : ℕ) (old : List ℕ) (at : ℕ) (r : State) (actor bindings plan values outputs memory out : List ℕ) : Type 0 where
   pub to : Machine
   pub stepped : Stepped m b to
-  pub stands : Stands to old at 378 r actor bindings plan values outputs memory out
+  pub stands : TablesStand to old at 378 r actor bindings plan values outputs memory out
 
 pub record Feeds (m : Machine) (bytes old : List ℕ) (at : ℕ) (r : State) (actor bindings plan values outputs memory out : List ℕ) : Type 0 where
   pub to : Machine
   pub runs : Runs m bytes to
-  pub stands : Stands to old at (378 * length bytes) r actor bindings plan values outputs memory out
+  pub stands : TablesStand to old at (378 * length bytes) r actor bindings plan values outputs memory out
 
 -- ---- the end: "input not in this form `bad`", "number and place on one line", "then all cells on one line"
 

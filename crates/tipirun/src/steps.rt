@@ -4,7 +4,7 @@ ghost use mathlib.Core.List.{[]};
 ghost use Prim.Native.Nat.{_+_, _*_, _≤_};
 ghost use lib.ListN.{length};
 ghost use Rattle.tipirun.specs.Lines.{Roomy};
-ghost use Rattle.tipirun.specs.Machine.{machine, movedOf, Stands, Steps, Feeds};
+ghost use Rattle.tipirun.specs.Machine.{machine, movedOf, TablesStand, Steps, Feeds};
 use crate::state::Stage;
 use crate::state::State;
 use crate::texts::actor_byte;
@@ -26,7 +26,7 @@ fn moved(
     out: &mut [u8],
 ) -> State
     requires { ⌜ Roomy (now values) (now outputs) (now memory) (now out) (s .at) ⌝ }
-    ensures { λ r. ⌜ Stands (movedOf (machine s (now (actor .entry)) (now (bindings .entry)) (now (plan .entry)) (now (values .entry)) (now (outputs .entry)) (now (memory .entry)) []) b) (now (out .entry)) (s .at) 378 r (now (actor .exit)) (now (bindings .exit)) (now (plan .entry)) (now (values .exit)) (now (outputs .exit)) (now (memory .exit)) (now (out .exit)) ⌝ }
+    ensures { λ r. ⌜ TablesStand (movedOf (machine s (now (actor .entry)) (now (bindings .entry)) (now (plan .entry)) (now (values .entry)) (now (outputs .entry)) (now (memory .entry)) []) b) (now (out .entry)) (s .at) 378 r (now (actor .exit)) (now (bindings .exit)) (now (plan .entry)) (now (values .exit)) (now (outputs .exit)) (now (memory .exit)) (now (out .exit)) ⌝ }
 {
     let stage = s.stage;
     match stage {

@@ -2,7 +2,7 @@
 ghost use mathlib.Core.Path.{_≡_};
 ghost use lib.ListN.{length, take, set};
 ghost use Rattle.tipirun.specs.Reading.{countByte, keptOf, actorByte, bindingsByte, plannedOf};
-ghost use Rattle.tipirun.specs.Machine.{Passed};
+ghost use Rattle.tipirun.specs.Machine.{StagePassed};
 ghost use Rattle.tipirun.specs.Reading.{Judged};
 use crate::numbers::longer;
 use crate::numbers::takes;
@@ -108,7 +108,7 @@ fn judged(s: State, actor: &[u8], bindings: &[u8], plan: &mut [u32]) -> State
 
 // A stage of which nothing is to come is over.
 pub fn passed(s: State, actor: &[u8], bindings: &[u8], plan: &mut [u32]) -> State
-    ensures { λ r. ⌜ Passed s (now (actor .entry)) (now (bindings .entry)) (now (plan .entry)) r (now (plan .exit)) ⌝ }
+    ensures { λ r. ⌜ StagePassed s (now (actor .entry)) (now (bindings .entry)) (now (plan .entry)) r (now (plan .exit)) ⌝ }
 {
     if 0 < s.left {
         return s;

@@ -73,7 +73,7 @@ abbrev pub picked : Bool → ℕ → ℕ
 picked true m = m
 picked false m = 0
 
-pub record Stands (r : List ℕ) (low after nested : Bool) (m : ℕ) (near : Bool) : Type 0 where
+pub record ScanStands (r : List ℕ) (low after nested : Bool) (m : ℕ) (near : Bool) : Type 0 where
   pub on : (l a i : Bool) (n : ℕ) (w : Bool) → seenFrom 0 (place l a i n w) r ≡ place (l || low) (a || after) (i || (w && nested)) (n + picked w m) (w && near)
 
 or-false : (b : Bool) → b ≡ (b || false)
@@ -96,19 +96,19 @@ picked-none : (w : Bool) → picked w 0 ≡ 0
 picked-none true = refl
 picked-none false = refl
 
-pub stands-apart : {r : List ℕ} → Apart r → Stands r false false false 0 true
+pub stands-apart : {r : List ℕ} → Apart r → ScanStands r false false false 0 true
 stands-apart d =
     record {
       on = λ l a i n w. d .on 0 (place l a i n w) ∙ (let p = or-false l in let q = or-false a in let x = or-false i in let y = and-false w in let z = and-true w in let k : n ≡ n + picked w 0 = let e = picked-none w in omega arith in cc);
     }
 
-module _ {r : List ℕ} {low after nested : Bool} {m : ℕ} {near : Bool} (h : Stands r low after nested m near) where
+module _ {r : List ℕ} {low after nested : Bool} {m : ℕ} {near : Bool} (h : ScanStands r low after nested m near) where
   -- the first of two
-  pub stands-left : (t : Ty) (o : ℕ) → (kindOf o ≡ Join) → Stands (flatT t ++ (item o 0 0 ++ r)) low after nested m near
+  pub stands-left : (t : Ty) (o : ℕ) → (kindOf o ≡ Join) → ScanStands (flatT t ++ (item o 0 0 ++ r)) low after nested m near
   unfolding seenFrom isType waitingOf outwardOf isZero
   stands-left t o e = record { on = λ l a i n w. type-passes t 0 .on _ _ ∙ seen-at 1 (place l a i n w) o 0 0 r e ∙ h .on l a i n w }
 
-  pub stands-before-minus : (t : Ty) → Stands (flatT t ++ (item MINUS 0 0 ++ r)) low after nested m near
+  pub stands-before-minus : (t : Ty) → ScanStands (flatT t ++ (item MINUS 0 0 ++ r)) low after nested m near
   unfolding seenFrom isType waitingOf outwardOf kindOf isZero
   stands-before-minus t = record { on = λ l a i n w. type-passes t 0 .on _ _ ∙ h .on l a i n w }
 
@@ -118,11 +118,11 @@ module _ {r : List ℕ} {low after nested : Bool} {m : ℕ} {near : Bool} (h : S
   one-more n false = omega arith
 
   -- the second
-  pub stands-right : (o : ℕ) → (kindOf o ≡ Join) → Stands (item o 0 0 ++ r) low after nested (suc m) near
+  pub stands-right : (o : ℕ) → (kindOf o ≡ Join) → ScanStands (item o 0 0 ++ r) low after nested (suc m) near
   unfolding seenFrom isType waitingOf outwardOf outerOf isZero
   stands-right o e = record { on = λ l a i n w. seen-at 0 (place l a i n w) o 0 0 r e ∙ h .on l a i (n + one-if w) w ∙ (let k = one-more n w in cc) }
 
-  pub stands-after-minus : Stands (item MINUS 0 0 ++ r) true true nested (suc m) near
+  pub stands-after-minus : ScanStands (item MINUS 0 0 ++ r) true true nested (suc m) near
   unfolding seenFrom isType waitingOf outwardOf outerOf kindOf isZero
   stands-after-minus = record { on = λ l a i n w. h .on true true i (n + one-if w) w ∙ (let k = one-more n w in let p = or-true l in let q = or-true a in cc) }
 
@@ -131,19 +131,19 @@ module _ {r : List ℕ} {low after nested : Bool} {m : ℕ} {near : Bool} (h : S
   in-log false true = refl
   in-log false false = refl
 
-  pub stands-log : (p : ℕ) → Stands (item LOG p 0 ++ r) true after true m near
+  pub stands-log : (p : ℕ) → ScanStands (item LOG p 0 ++ r) true after true m near
   unfolding seenFrom isType waitingOf outwardOf outerOf kindOf isZero
   stands-log p = record { on = λ l a i n w. h .on true a (i || w) n w ∙ (let q = or-true l in let x = in-log i w in cc) }
 
-  pub stands-whole : (o p : ℕ) → kindOf o ≡ Whole → Stands (item o p 0 ++ r) true after false 0 false
+  pub stands-whole : (o p : ℕ) → kindOf o ≡ Whole → ScanStands (item o p 0 ++ r) true after false 0 false
   unfolding seenFrom isType waitingOf outwardOf outerOf isZero
   stands-whole o p e = record { on = λ l a i n w. seen-at 0 (place l a i n w) o p 0 r e ∙ h .on true a i n false ∙ (let q = or-true l in let x = and-false w in let y = picked-none w in cc) }
 
-  pub stands-most : (p : ℕ) → Stands (item MOST p 0 ++ r) true after nested m near
+  pub stands-most : (p : ℕ) → ScanStands (item MOST p 0 ++ r) true after nested m near
   unfolding seenFrom isType waitingOf outwardOf outerOf kindOf isZero
   stands-most p = record { on = λ l a i n w. h .on true a i n w ∙ (let q = or-true l in cc) }
 
-  pub stands-within : (p : ℕ) → Stands (item WITHIN p 0 ++ r) low after nested m near
+  pub stands-within : (p : ℕ) → ScanStands (item WITHIN p 0 ++ r) low after nested m near
   unfolding seenFrom isType waitingOf outwardOf outerOf kindOf isZero
   stands-within p = record { on = λ l a i n w. h .on l a i n w }
 

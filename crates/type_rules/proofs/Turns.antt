@@ -252,9 +252,9 @@ module _ (t : List ℕ) (n i : ℕ) {q : Kind} (e : q ≡ kindOf (opAt t i)) whe
   as-kind : {k : Kind} → q ≡ k → test (kindsBefore t i) k (valueAt t i) (seenFrom 0 bare (drop (3 * (i + 1)) (take n t))) ≡ faulty t n i
   as-kind f = ap (λ (k : Kind). test (kindsBefore t i) k (valueAt t i) (seenFrom 0 bare (drop (3 * (i + 1)) (take n t)))) (sym f ∙ e)
 
-  pub number-test : q ≡ Number → ltb (limits .constant) (valueAt t i) ≡ faulty t n i
+  pub number-test : q ≡ Number → ltb (limits .typeNumber) (valueAt t i) ≡ faulty t n i
   unfolding test
-  number-test f = over (valueAt t i) (limits .constant) ∙ as-kind f
+  number-test f = over (valueAt t i) (limits .typeNumber) ∙ as-kind f
 
   pub port-test : q ≡ Port → {s : Around} → s ≡ seenFrom 0 bare (drop (3 * (i + 1)) (take n t)) → s .after ≡ faulty t n i
   unfolding test

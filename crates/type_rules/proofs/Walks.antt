@@ -14,7 +14,7 @@ use Rattle.syntax.specs.Tape.{item, flatT, PLUS, MINUS, LOG, CEIL, FLOOR, MOST,
 use Rattle.type_rules.specs.Walk.{kindOf, bare, seenFrom, passing, logsOver, logFaulty, test}
 use Rattle.type_rules.specs.declared.Kind.{Kind}
 use Rattle.type_rules.specs.declared.Around.{Around}
-use Rattle.type_rules.proofs.Scans.{Apart, Stands, stands-apart, stands-left, stands-before-minus, stands-right, stands-after-minus, stands-log, stands-whole, stands-most, stands-within, kindsOnto, passed-over, Before, before-none, before-more}
+use Rattle.type_rules.proofs.Scans.{Apart, ScanStands, stands-apart, stands-left, stands-before-minus, stands-right, stands-after-minus, stands-log, stands-whole, stands-most, stands-within, kindsOnto, passed-over, Before, before-none, before-more}
 
 -- the places of the faulty items of a list, where these kinds stand before them
 unfoldable pub walked : List Kind → List ℕ → List ℕ
@@ -25,7 +25,7 @@ walked l (o ∷ p ∷ v ∷ r) = when (test l (kindOf o) v (seenFrom 0 bare r)) 
 
 -- those of a type: whether no `max` may stand there, whether it is after a `-`, whether it is in a log, how many logs stand before it
 unfoldable pub placesF : (low after nested : Bool) → ℕ → Ty → List ℕ
-placesF low after nested k (number n) = when (not (leb (n .value) (limits .constant))) (n .at)
+placesF low after nested k (number n) = when (not (leb (n .value) (limits .typeNumber))) (n .at)
 placesF low after nested k (environment n) = []
 placesF low after nested k (port n) = when after (n .at)
 placesF low after nested k (plus s t) = placesF low after nested k s ++ placesF low after nested (k + length (logs s)) t
@@ -37,7 +37,7 @@ placesF low after nested k (most p t) = placesF true after nested k t ++ when lo
 placesF low after nested k (entry s t) = placesF low after nested k s ++ placesF low after nested (k + length (logs s)) t
 placesF low after nested k (within p t) = placesF low after nested k t
 
-module _ {r : List ℕ} {low after nested : Bool} {m : ℕ} {near : Bool} (h : Stands r low after nested m near) where
+module _ {r : List ℕ} {low after nested : Bool} {m : ℕ} {near : Bool} (h : ScanStands r low after nested m near) where
   seen : seenFrom 0 bare r .low ≡ low
   seen = ap (λ (s : Around). s .low) (h .on false false false 0 true)
 
@@ -58,7 +58,7 @@ module _ {r : List ℕ} {low after nested : Bool} {m : ℕ} {near : Bool} (h : S
 two-walk : (l : List Kind) (a b c r f g : List ℕ) {x : List ℕ} (y : List ℕ) → walked l (a ++ (b ++ (c ++ r))) ≡ f ++ x → x ≡ g ++ y → walked l (((a ++ b) ++ c) ++ r) ≡ (f ++ g) ++ y
 two-walk l a b c r f g y d e = ap (walked l) (append-assoc (a ++ b) c r ∙ append-assoc a b (c ++ r)) ∙ d ∙ ap (λ (z : List ℕ). f ++ z) e ∙ sym (append-assoc f g y)
 
-pub type-walk : (t : Ty) (l : List Kind) {r : List ℕ} {low after nested : Bool} {m : ℕ} {near : Bool} {k : ℕ} → Stands r low after nested m near → Before l m k → walked l (flatT t ++ r) ≡ placesF low after nested k t ++ walked (kindsOnto t l) r
+pub type-walk : (t : Ty) (l : List Kind) {r : List ℕ} {low after nested : Bool} {m : ℕ} {near : Bool} {k : ℕ} → ScanStands r low after nested m near → Before l m k → walked l (flatT t ++ r) ≡ placesF low after nested k t ++ walked (kindsOnto t l) r
 unfolding flatT walked placesF kindsOnto kindOf test when
 type-walk (number n) l h b = refl
 type-walk (environment n) l h b = refl

@@ -164,7 +164,7 @@ unfoldable pub logFaulty : List Kind → Around → Bool
 logFaulty ks s = s .in_log || leb together (logsOver (passing (s .lefts)) ks)
 
 unfoldable pub test : List Kind → Kind → ℕ → Around → Bool
-test ks Number v s = not (leb v (limits .constant))
+test ks Number v s = not (leb v (limits .typeNumber))
 test ks Name v s = false
 test ks Port v s = s .after
 test ks Join v s = false

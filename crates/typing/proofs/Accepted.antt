@@ -16,7 +16,7 @@ use Rattle.language.specs.Types.{typeFaults}
 use Rattle.language.specs.Bindings.{Bindings}
 use Rattle.language.specs.Widths.{Want, exactly, valued, typeWant, declaredType, portWant, wants, boundNames, valueIn}
 use Rattle.typing.specs.Terms.{Term, number, code, logsIn, TypeOf}
-use Rattle.typing.specs.Walk.{Stands}
+use Rattle.typing.specs.Walk.{TermStands}
 use Rattle.typing.specs.Solved.{Coded, termOf, termsOf}
 use Rattle.typing.proofs.Rules.{none-left, none-right, passed, type-right}
 use Rattle.typing.proofs.Bridge.{as-many}
@@ -210,11 +210,11 @@ module _ (a : Actor) (b : Bindings) where
   pub coded : nameFaults a ≡ [] → each typeFaults (types (actorItems a)) ≡ [] → All (λ (t : Ty). typeWords t ≤ 64) (types (actorItems a))
       → ((s : List ℕ) → valueIn (b .widths) s ≤ 65535) → ((s : List ℕ) → valueIn (b .values) s ≤ 65535) → (code starts ends : List ℕ)
       → length starts ≡ length (wants a b) → length ends ≡ length (wants a b)
-      → ((i : ℕ) → i < length (wants a b) → Stands (termOf a b (getD (wants a b) i (exactly 0))) code (getD starts i 0) (getD ends i 0)) → Coded (termsOf a b) code starts ends
+      → ((i : ℕ) → i < length (wants a b) → TermStands (termOf a b (getD (wants a b) i (exactly 0))) code (getD starts i 0) (getD ends i 0)) → Coded (termsOf a b) code starts ends
   unfolding termsOf termOf
   coded e f w u v code starts ends p q g = record {
     count = p ∙ sym (as-many a b);
     counted = q ∙ sym (as-many a b);
-    each = λ i h. subst (λ (t : Term). Stands t code (getD starts i 0) (getD ends i 0)) (sym (List·getD-map (termOf a b) (wants a b) i (exactly 0))) (g i (subst (λ (n : ℕ). i < n) (as-many a b) h));
+    each = λ i h. subst (λ (t : Term). TermStands t code (getD starts i 0) (getD ends i 0)) (sym (List·getD-map (termOf a b) (wants a b) i (exactly 0))) (g i (subst (λ (n : ℕ). i < n) (as-many a b) h));
     right = λ i h. terms-right e f w u v i;
   }

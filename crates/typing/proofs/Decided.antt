@@ -7,7 +7,7 @@ use native.Mathlib.Nat.{le-antisymm}
 use lib.ListN.{length}
 use lib.Seq.{ext-getD}
 use Rattle.typing.specs.Terms.{Term, TypeOf, Small}
-use Rattle.typing.specs.Walk.{Stands}
+use Rattle.typing.specs.Walk.{TermStands}
 use Rattle.typing.specs.Solved.{Answer}
 
 pub one-answer : (ts : List Term) (r s : Bool) (ws vs : List ℕ) → Answer r ts ws → Answer s ts vs → (r ≡ s) × (ws ≡ vs)
@@ -18,6 +18,6 @@ one-answer ts false true ws vs a b = absurd (a .0 vs (b .solves))
 one-answer ts false false ws vs a b = (refl, a .1 ∙ sym (b .1))
 
 -- what is told of every type whose code stands there, where one does, is told of one result
-pub one-result : {A : Type 0} (f : Term → A) (ws l : List ℕ) (from end : ℕ) → Small ws → (t : Term) × Stands t l from end × TypeOf (length ws) t → (r s : A)
-    → ((t : Term) → Stands t l from end → TypeOf (length ws) t → Small ws → r ≡ f t) → ((t : Term) → Stands t l from end → TypeOf (length ws) t → Small ws → s ≡ f t) → r ≡ s
+pub one-result : {A : Type 0} (f : Term → A) (ws l : List ℕ) (from end : ℕ) → Small ws → (t : Term) × TermStands t l from end × TypeOf (length ws) t → (r s : A)
+    → ((t : Term) → TermStands t l from end → TypeOf (length ws) t → Small ws → r ≡ f t) → ((t : Term) → TermStands t l from end → TypeOf (length ws) t → Small ws → s ≡ f t) → r ≡ s
 one-result f ws l from end h g r s x y = x (g .0) (g .1) (g .2) h ∙ sym (y (g .0) (g .1) (g .2) h)

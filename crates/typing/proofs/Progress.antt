@@ -13,7 +13,7 @@ use lib.ListN.{length, getD, set, replicate, length-replicate}
 use lib.Seq.{getD-set-same, getD-set-other}
 use Rattle.language.specs.Types.{widthOf}
 use Rattle.typing.specs.Terms.{Term, number, valueAt, Fine, TypeOf, Small}
-use Rattle.typing.specs.Walk.{Stands}
+use Rattle.typing.specs.Walk.{TermStands}
 use Rattle.typing.specs.Solved.{wanted, Solves, Lowest, Coded}
 use Rattle.typing.proofs.Grows.{Under, widths-grow}
 
@@ -118,7 +118,7 @@ module _ (ts : List Term) (code starts ends : List ℕ) (c : Coded ts code start
   in-range i h = subst (λ (k : ℕ). i < k) (c .count) h
 
   pub told : (ws : List ℕ) (i v : ℕ) → length ws ≡ length starts → ((j : ℕ) → getD ws j 0 ≤ 32) → i < length starts
-      → ((t : Term) → Stands t code (getD starts i 0) (getD ends i 0) → TypeOf (length ws) t → Small ws → v ≡ widthOf (valueAt ws t)) → v ≡ wanted ts ws i
+      → ((t : Term) → TermStands t code (getD starts i 0) (getD ends i 0) → TypeOf (length ws) t → Small ws → v ≡ widthOf (valueAt ws t)) → v ≡ wanted ts ws i
   unfolding wanted
   told ws i v e small h f =
       let l : i < length ts = in-range i h in

@@ -11,7 +11,7 @@ use native.Mathlib.Nat.{div-lt-iff-lt-mul, le-div-iff-mul-le}
 use Rattle.language.specs.declared.Exact.{Exact}
 use Rattle.language.specs.Types.{wholeOf}
 use Rattle.typing.specs.Terms.{Term, code, valueAt, TypeOf, Small}
-use Rattle.typing.specs.Walk.{part, Stands, Turned, turn, walk, Space, Room, Ready, leaf, unary, binary, fits, hasSpace, sumsFit, productsFit, hasRoom, lastHasSpace, lastTwoHaveRoom, isReady, alone, valueFrom, valueOf, exactAt, waiting}
+use Rattle.typing.specs.Walk.{part, TermStands, Turned, turn, walk, Space, Room, Ready, leaf, unary, binary, fits, hasSpace, sumsFit, productsFit, hasRoom, lastHasSpace, lastTwoHaveRoom, isReady, alone, valueFrom, valueOf, exactAt, waiting}
 use Rattle.typing.proofs.Bounds.{space}
 use Rattle.typing.proofs.Walking.{part-more, part-none, walk-whole, Safe, safe-whole}
 
@@ -249,15 +249,15 @@ module _ (ws l : List ℕ) (from end : ℕ) where
     ended h = sym (m .leads) ∙ ap (λ (ks : List ℕ). valueFrom ws ks (waiting cells n)) (part-none l i end h)
 
   -- the code of a type that keeps the rules has the type's value
-  pub typed : Small ws → (t : Term) → Stands t l from end → TypeOf (length ws) t → valueOf ws (part l from end) ≡ valueAt ws t
+  pub typed : Small ws → (t : Term) → TermStands t l from end → TypeOf (length ws) t → valueOf ws (part l from end) ≡ valueAt ws t
   typed small t s y =
       ap (valueOf ws) (s .is) ∙ value-of-safe ws (code t) [] (valueAt ws t) (safe-whole ws small t y) (walk-whole ws t) (space ws (length ws) small t y)
 
   pub answers : (r : Exact) → (end ≤ length l → r ≡ valueOf ws (part l from end)) → Space r
-      → ((t : Term) → Stands t l from end → TypeOf (length ws) t → Small ws → r ≡ valueAt ws t) × ((end ≤ length l → r ≡ valueOf ws (part l from end)) × Space r)
+      → ((t : Term) → TermStands t l from end → TypeOf (length ws) t → Small ws → r ≡ valueAt ws t) × ((end ≤ length l → r ≡ valueOf ws (part l from end)) × Space r)
   answers r f s = (λ t h y small. f (h .inside) ∙ typed small t h y, (f, s))
 
   -- an answer of 0 where that is the value
   pub answers-zero : (r : Exact) → r ≡ wholeOf 0 0 → (end ≤ length l → valueOf ws (part l from end) ≡ wholeOf 0 0)
-      → ((t : Term) → Stands t l from end → TypeOf (length ws) t → Small ws → r ≡ valueAt ws t) × ((end ≤ length l → r ≡ valueOf ws (part l from end)) × Space r)
+      → ((t : Term) → TermStands t l from end → TypeOf (length ws) t → Small ws → r ≡ valueAt ws t) × ((end ≤ length l → r ≡ valueOf ws (part l from end)) × Space r)
   answers-zero r e f = answers r (λ h. e ∙ sym (f h)) (subst (λ (x : Exact). Space x) (sym e) zero-space)

@@ -11,7 +11,7 @@ use Rattle.language.specs.Bindings.{Bindings}
 use Rattle.language.specs.Types.{widthOf}
 use Rattle.language.specs.Widths.{Want, exactly, valued, wants, valueIn}
 use Rattle.typing.specs.Terms.{Term, number, valueAt, resolve, TypeOf}
-use Rattle.typing.specs.Walk.{Stands}
+use Rattle.typing.specs.Walk.{TermStands}
 
 -- what the type of unknown i comes to at the widths ws
 unfoldable pub wanted : List Term → List ℕ → ℕ → ℕ
@@ -35,7 +35,7 @@ Answer false ts ws = ((vs : List ℕ) → Solves ts vs → ⊥) × (ws ≡ repli
 pub record Coded (ts : List Term) (code starts ends : List ℕ) : Type 0 where
   pub count : length starts ≡ length ts
   pub counted : length ends ≡ length ts
-  pub each : (i : ℕ) → i < length ts → Stands (getD ts i (number 0)) code (getD starts i 0) (getD ends i 0)
+  pub each : (i : ℕ) → i < length ts → TermStands (getD ts i (number 0)) code (getD starts i 0) (getD ends i 0)
   pub right : (i : ℕ) → i < length ts → TypeOf (length ts) (getD ts i (number 0))
 
 -- ---- an actor's wants as types of unknowns: the ports of the signature, and then the memories. A bound width is a number.

@@ -77,7 +77,7 @@ Closed (greater s t) = Closed s × Closed t
 
 -- numbers to 65,535; n unknowns; after `-` no port's type; in a log's argument no log outside `floor` and `ceil`, of which two stand within one of these
 abbrev pub Fine : ℕ → Term → Type 0
-Fine n (number k) = k ≤ limits .constant
+Fine n (number k) = k ≤ limits .typeNumber
 Fine n (port i) = i < n
 Fine n (log t) = Fine n t × (logsIn t ≡ 0)
 Fine n (floor t) = Fine n t × (logsIn t ≤ 2)
@@ -90,8 +90,8 @@ Fine n (greater s t) = Fine n s × Fine n t
 pub record TypeOf (n : ℕ) (t : Term) : Type 0 where
   pub fine : Fine n t
   pub two : logsIn t ≤ 2
-  pub short : length (code t) ≤ limits .words
+  pub short : length (code t) ≤ limits .typeWords
 
 -- widths that no type of these overflows with
 abbrev pub Small : List ℕ → Type 0
-Small ws = (i : ℕ) → getD ws i 0 ≤ limits .constant
+Small ws = (i : ℕ) → getD ws i 0 ≤ limits .typeNumber

@@ -17,7 +17,7 @@ abbrev pub part : List ℕ → ℕ → ℕ → List ℕ
 part l from end = take (end - from) (drop from l)
 
 -- the code of t stands there
-pub record Stands (t : Term) (l : List ℕ) (from end : ℕ) : Type 0 where
+pub record TermStands (t : Term) (l : List ℕ) (from end : ℕ) : Type 0 where
   pub inside : end ≤ length l
   pub is : part l from end ≡ code t
 

@@ -11,7 +11,7 @@ ghost use lib.ListN.{length, getD, replicate};
 ghost use Rattle.language.specs.Limits.{limits};
 ghost use Rattle.language.specs.Types.{wholeOf, logOf, plusOf, minusOf, notAbove, greaterOf, logDown, logUp, floorOf, ceilOf, widthOf, positionOf};
 ghost use Rattle.typing.specs.Terms.{Term, valueAt, TypeOf, Small};
-ghost use Rattle.typing.specs.Walk.{part, Stands, leafOf, unaryOf, binaryOf, Space, Room, Ready, fits, hasSpace, sumsFit, productsFit, hasRoom, lastHasSpace, lastTwoHaveRoom, isReady, alone, valueOf, exactAt, stored, waiting, Turned, positioned};
+ghost use Rattle.typing.specs.Walk.{part, TermStands, leafOf, unaryOf, binaryOf, Space, Room, Ready, fits, hasSpace, sumsFit, productsFit, hasRoom, lastHasSpace, lastTwoHaveRoom, isReady, alone, valueOf, exactAt, stored, waiting, Turned, positioned};
 ghost use Rattle.typing.specs.Solved.{Coded, Answer};
 
 // The most that a number of 64 bits is.
@@ -359,7 +359,7 @@ fn only(cells: &[u64; 256], n: usize) -> Exact
 
 // The value of the type whose code stands from one index to another, at the widths ws; 0 where no type's code stands there.
 pub fn value_at(code: &[u32], from: usize, end: usize, ws: &[u32]) -> Exact
-    ensures { λ r. ⌜ ((t : Term) → Stands t (now (code .entry)) from end → TypeOf (length (now (ws .entry))) t → Small (now (ws .entry)) → r ≡ valueAt (now (ws .entry)) t) ⌝ }
+    ensures { λ r. ⌜ ((t : Term) → TermStands t (now (code .entry)) from end → TypeOf (length (now (ws .entry))) t → Small (now (ws .entry)) → r ≡ valueAt (now (ws .entry)) t) ⌝ }
     ensures { λ r. ⌜ (end ≤ length (now (code .entry)) → r ≡ valueOf (now (ws .entry)) (part (now (code .entry)) from end)) ⌝ }
     ensures { λ r. ⌜ Space r ⌝ }
 {
@@ -380,14 +380,14 @@ pub fn value_at(code: &[u32], from: usize, end: usize, ws: &[u32]) -> Exact
 }
 
 pub fn width_at(code: &[u32], from: usize, end: usize, ws: &[u32]) -> u64
-    ensures { λ r. ⌜ ((t : Term) → Stands t (now (code .entry)) from end → TypeOf (length (now (ws .entry))) t → Small (now (ws .entry)) → r ≡ widthOf (valueAt (now (ws .entry)) t)) ⌝ }
+    ensures { λ r. ⌜ ((t : Term) → TermStands t (now (code .entry)) from end → TypeOf (length (now (ws .entry))) t → Small (now (ws .entry)) → r ≡ widthOf (valueAt (now (ws .entry)) t)) ⌝ }
     ensures { λ r. ⌜ (end ≤ length (now (code .entry)) → r ≡ widthOf (valueOf (now (ws .entry)) (part (now (code .entry)) from end))) ⌝ }
 {
     width_of(value_at(code, from, end, ws))
 }
 
 pub fn position_at(code: &[u32], from: usize, end: usize, ws: &[u32]) -> Position
-    ensures { λ r. ⌜ ((t : Term) → Stands t (now (code .entry)) from end → TypeOf (length (now (ws .entry))) t → Small (now (ws .entry)) → r ≡ positioned (positionOf (valueAt (now (ws .entry)) t))) ⌝ }
+    ensures { λ r. ⌜ ((t : Term) → TermStands t (now (code .entry)) from end → TypeOf (length (now (ws .entry))) t → Small (now (ws .entry)) → r ≡ positioned (positionOf (valueAt (now (ws .entry)) t))) ⌝ }
     ensures { λ r. ⌜ (end ≤ length (now (code .entry)) → r ≡ positioned (positionOf (valueOf (now (ws .entry)) (part (now (code .entry)) from end)))) ⌝ }
 {
     position_of(value_at(code, from, end, ws))

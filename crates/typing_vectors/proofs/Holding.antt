@@ -8,7 +8,7 @@ use native.Mathlib.Omega.{arith}
 use lib.ListN.{length, getD, set, take, drop, length-take, length-drop}
 use lib.Seq.{getD-set-same, getD-set-other, getD-drop, take-suc}
 use Rattle.typing.specs.Terms.{Term, code, TypeOf}
-use Rattle.typing.specs.Walk.{part, Stands}
+use Rattle.typing.specs.Walk.{part, TermStands}
 use Rattle.typing_vectors.specs.Judged.{Judged, codes, Marked, Held}
 
 -- a store at or past them leaves them
@@ -104,7 +104,7 @@ pub part-empty : (l : List ℕ) (from : ℕ) → part l from from ≡ []
 part-empty l from = let e : from - from ≡ 0 = omega arith in ap (λ (n : ℕ). take n (drop from l)) e
 
 -- one type with at most two logs together is a whole type
-pub whole : (n : ℕ) (l marks : List ℕ) (from end k : ℕ) → k ≡ 1 → end ≤ length l → end - from ≤ 64 → getD marks 0 0 < 6 → Held n marks k (part l from end) → (t : Term) × Stands t l from end × TypeOf n t
+pub whole : (n : ℕ) (l marks : List ℕ) (from end k : ℕ) → k ≡ 1 → end ≤ length l → end - from ≤ 64 → getD marks 0 0 < 6 → Held n marks k (part l from end) → (t : Term) × TermStands t l from end × TypeOf n t
 whole n l marks from end k o inside short two h =
     let a = last n marks k (part l from end) (omega arith) h in
     let z : k - 1 ≡ 0 = omega arith in

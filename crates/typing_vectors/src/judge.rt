@@ -5,7 +5,7 @@ ghost use mathlib.Core.List.{List, [], _∷_, _++_};
 ghost use Prim.Native.Nat.{ℕ, _+_, _≤_, _<_};
 ghost use lib.ListN.{length, getD, set};
 ghost use Rattle.typing.specs.Terms.{Term, TypeOf};
-ghost use Rattle.typing.specs.Walk.{Stands};
+ghost use Rattle.typing.specs.Walk.{TermStands};
 ghost use Rattle.typing.specs.Solved.{Coded};
 ghost use Rattle.typing_vectors.specs.Judged.{Judged, Held};
 
@@ -125,7 +125,7 @@ fn step(node: u32, unknowns: usize, marks: &mut [u32; 64], n: usize) -> usize
 
 // The part of the code is that of one type that keeps the rules.
 pub fn sound(code: &[u32], from: usize, end: usize, unknowns: usize) -> bool
-    ensures { λ r. ⌜ (r ≡ true → (t : Term) × Stands t (now (code .entry)) from end × TypeOf unknowns t) ⌝ }
+    ensures { λ r. ⌜ (r ≡ true → (t : Term) × TermStands t (now (code .entry)) from end × TypeOf unknowns t) ⌝ }
 {
     if code.len() < end {
         return false;

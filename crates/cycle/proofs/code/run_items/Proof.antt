@@ -15,13 +15,13 @@ use Rattle.plan.specs.Steps.{top, itemAt}
 use Rattle.plan.proofs.Turns.{rest}
 use Rattle.cycle.specs.Machine.{State, state, exec1, execAll}
 use Rattle.cycle.specs.Ready.{Ready, Buffered, Left}
-use Rattle.cycle.specs.Safety.{Given, Safe, Ran}
+use Rattle.cycle.specs.Safety.{CodeGiven, Safe, Ran}
 use Rattle.cycle.proofs.Turns.{safe-any, exec-turn, exec-done, turn-found, left-state, left-turn, ready-of, not-bad, ran-of}
 use Rattle.cycle.proofs.code.run_items.Statement.{statement}
 use Rattle.cycle.proofs.code.run_items.Tie as tie
 
 abbrev Inv-loop : tie.InvT-loop
-Inv-loop plan values memory outputs₀ stack₀ slots₀ next₀ marks₀ from items clash end n₀ twice₀ at₀ outputs stack slots next marks n twice at = (i : ℕ) × (i ≤ items) × (at ≡ from + 4 * i) × (n ≤ 256) × (length outputs ≡ length outputs₀) × (length stack ≡ 256) × (length slots ≡ length slots₀) × (length next ≡ length next₀) × (length marks ≡ length marks₀) × ((present taken : ℕ) → Safe plan present taken (decodeAll (take (4 * items) (drop from plan))) (state [] slots₀ outputs₀ []) → Given plan present values memory → (qs : List (Change ℕ)) → Buffered memory next₀ marks₀ clash qs → (s : State) × Left memory stack n slots outputs next marks twice s × Safe plan present taken (rest plan at items i) s × (execAll values memory (rest plan at items i) s ≡ execAll values memory (decodeAll (take (4 * items) (drop from plan))) (state [] slots₀ outputs₀ qs)))
+Inv-loop plan values memory outputs₀ stack₀ slots₀ next₀ marks₀ from items clash end n₀ twice₀ at₀ outputs stack slots next marks n twice at = (i : ℕ) × (i ≤ items) × (at ≡ from + 4 * i) × (n ≤ 256) × (length outputs ≡ length outputs₀) × (length stack ≡ 256) × (length slots ≡ length slots₀) × (length next ≡ length next₀) × (length marks ≡ length marks₀) × ((present taken : ℕ) → Safe plan present taken (decodeAll (take (4 * items) (drop from plan))) (state [] slots₀ outputs₀ []) → CodeGiven plan present values memory → (qs : List (Change ℕ)) → Buffered memory next₀ marks₀ clash qs → (s : State) × Left memory stack n slots outputs next marks twice s × Safe plan present taken (rest plan at items i) s × (execAll values memory (rest plan at items i) s ≡ execAll values memory (decodeAll (take (4 * items) (drop from plan))) (state [] slots₀ outputs₀ qs)))
 
 abbrev μ-loop : tie.MeasureT-loop
 μ-loop plan values memory outputs₀ stack₀ slots₀ next₀ marks₀ from items clash end n₀ twice₀ at₀ outputs stack slots next marks n twice at = end - at
