@@ -78,6 +78,7 @@ module _ {T : Type 0} (D : List Word → T → Type 0) (run : ℕ → List Word 
     first : (c : List Word) (u : T) (i : ℕ) → D (p ++ c) u → i ≡ length (p ++ rest) - length rest → read (p ++ rest) ≡ fault i → FirstFault D (p ++ rest) i
     first c u i d h q = let k = cut p rest i (omega (arith, length-append p rest)) in
         record {
+          bounded = omega (arith, length-append p rest);
           rest = c;
           read = u;
           finished = rw (k .0) d;

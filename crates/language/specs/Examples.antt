@@ -87,5 +87,22 @@ wanteds [] = []
 wanteds (e ∷ l) = some (e .wanted) ∷ wanteds l
 
 pub examples-hold : founds examples ≡ wanteds examples
-unfolding founds wanteds examples type value widthOf resultOf typeIn valueIn nothing Names.when Parts.start Parts.breadthStart Types.rulesBroken Types.typeFaults Types.logs Sizes.one-part Sizes.two-parts Sizes.limited Sizes.positions Sizes.extent Text.same Text.index Text.among Words.bytes Words.spellings Words.begins Words.span Words.some-of Words.digit Words.letter Words.plainByte Words.nameByte Words.blank Words.close Words.gap Words.after-gaps Words.keywords Words.left-out Words.signs Words.first-of Words.goodName Words.ownName Words.nameNext Words.digitOf Words.valueInBase Words.digitIn Words.numberNext Words.one-of Words.baseOf Words.namedNext Words.quoteNext Words.signNext Words.next Words.push Words.wordsFrom Words.wordsOf Reader.bind Reader.on Reader.isNum Reader.isName Reader.isDigits Reader.is Reader.expect Reader.until Parser.typeP Parser.isWord Parser.ahead Parser.armEnds Parser.below Parser.isOperator Parser.prefixAt Parser.isPrefix Parser.amountP Parser.partP Parser.exprP Grammar.operators Grammar.operatorIn Grammar.prefixes Grammar.prefixIn Types.notAbove Types.greaterOf Types.fewestIn Types.fewest Types.logDown Types.logUp Types.floorOf Types.ceilOf Types.widthOf Types.positionOf Types.exactOf Widths.valueIn Widths.typeWidth Sizes.breadthOf Sizes.amountOf Sizes.positionAt Values.bitOf Values.numberOf Values.onesOf Values.oneBit Values.truth Values.complement Values.plainWidth Values.binaryWidth Values.addOf Values.subtractOf Values.divideOf Values.remainderOf Values.leftOf Values.rightOf Values.andOf Values.orOf Values.xorOf Values.binaryValue Values.unaryWidth Values.unaryValue Values.besideOf Values.copiesOf Values.rangeWidth Values.rangeOf Values.chosen Meaning.positionIn Meaning.bitsIn Meaning.valueOf
+unfolding founds wanteds examples type value widthOf resultOf typeIn valueIn nothing
+    Names.when
+    Parts.start Parts.breadthStart
+    Types.rulesBroken Types.typeFaults Types.logs Types.notAbove Types.greaterOf Types.fewestIn Types.fewest Types.logDown Types.logUp Types.floorOf Types.ceilOf
+    Types.widthOf Types.positionOf Types.exactOf
+    Sizes.one-part Sizes.two-parts Sizes.limited Sizes.positions Sizes.extent Sizes.breadthOf Sizes.amountOf Sizes.positionAt
+    Text.same Text.index Text.among
+    Words.bytes Words.spellings Words.begins Words.span Words.some-of Words.digit Words.letter Words.plainByte Words.nameByte Words.blank Words.close Words.gap
+    Words.after-gaps Words.keywords Words.left-out Words.signs Words.first-of Words.goodName Words.ownName Words.nameNext Words.digitOf Words.valueInBase Words.digitIn
+    Words.numberNext Words.one-of Words.baseOf Words.namedNext Words.quoteNext Words.signNext Words.next Words.push Words.wordsFrom Words.wordsOf
+    Reader.bind Reader.on Reader.isNum Reader.isName Reader.isDigits Reader.is Reader.expect Reader.until
+    Parser.typeP Parser.isWord Parser.ahead Parser.armEnds Parser.below Parser.isOperator Parser.prefixAt Parser.isPrefix Parser.amountP Parser.partP Parser.exprP
+    Grammar.operators Grammar.operatorIn Grammar.prefixes Grammar.prefixIn
+    Widths.valueIn Widths.typeWidth
+    Values.bitOf Values.numberOf Values.onesOf Values.oneBit Values.truth Values.complement Values.plainWidth Values.binaryWidth Values.addOf Values.subtractOf
+    Values.divideOf Values.remainderOf Values.leftOf Values.rightOf Values.andOf Values.orOf Values.xorOf Values.binaryValue Values.unaryWidth Values.unaryValue
+    Values.besideOf Values.copiesOf Values.rangeWidth Values.rangeOf Values.chosen
+    Meaning.positionIn Meaning.bitsIn Meaning.valueOf
 examples-hold = refl

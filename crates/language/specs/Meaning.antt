@@ -165,12 +165,16 @@ unfoldable pub fits : List ℕ → List ℕ → Bool
 fits [] vs = true
 fits (w ∷ ws) vs = ltb (getD vs 0 0) (2 ^ w) && fits ws (lib.ListN.drop 1 vs)
 
--- "a present input .. that doesn't fit"
+-- "a present input .. that doesn't fit": an absent one is not looked at
+unfoldable pub presentFits : Setting → Given → List ℕ → Bool
+presentFits s g n = not (isPresent s (g .mask) n) || ltb (getD (g .values) (portAt s n) 0) (2 ^ portWidth (s .actor) (s .widths) n)
+
+unfoldable pub allFit : Setting → Given → List (List ℕ) → Bool
+allFit s g [] = true
+allFit s g (n ∷ ns) = presentFits s g n && allFit s g ns
+
 unfoldable pub inputsFit : Setting → Given → Bool
-inputsFit s g = elim (each misfit (inputNames (s .actor .ports))) [ [] ↦ true | n ∷ l ↦ false ]
-  where
-    misfit : List ℕ → List (List ℕ)
-    misfit n = elim (isPresent s (g .mask) n && not (ltb (getD (g .values) (portAt s n) 0) (2 ^ portWidth (s .actor) (s .widths) n))) [ true ↦ n ∷ [] | false ↦ [] ]
+inputsFit s g = allFit s g (inputNames (s .actor .ports))
 
 -- "22 a mask bit past the ports, a present input or a cell that doesn't fit"
 unfoldable pub fitting : Setting → Given → Bool

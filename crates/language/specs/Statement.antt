@@ -2,14 +2,15 @@
 -- proofs/Main.antt proves `grammar-correct : Correct Actors parse`.
 use mathlib.Core.Path.{_≡_}
 use mathlib.Core.List.{List, [], _∷_, _++_}
-use Prim.Native.Nat.{ℕ}
-use lib.ListN.{take, drop}
+use Prim.Native.Nat.{ℕ, _≤_}
+use lib.ListN.{length, take, drop}
 use Rattle.language.specs.Words.{Word}
 use Rattle.language.specs.Reader.{Verdict, tree, fault, tired}
 
--- i is the index of the first word that does not fit:
+-- i is the index of the first word that does not fit, or the number of words where the text ends too early:
 -- some words finish the first i words to a text; with the next word no words do; and where there is no next word, the first i words are no text
 pub record FirstFault {T : Type 0} (D : List Word → T → Type 0) (ws : List Word) (i : ℕ) : Type 0 where
+  pub bounded : i ≤ length ws
   pub rest : List Word
   pub read : T
   pub finished : D (take i ws ++ rest) read

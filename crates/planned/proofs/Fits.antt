@@ -2,7 +2,7 @@
 use Prim.Native.Nat.{ℕ, zero, suc, _+_, _^_, _≤_, _<_}
 use mathlib.Core.Path.{_≡_, refl, sym, ap, ap₂, _∙_}
 use mathlib.Core.List.{List, [], _∷_, _++_}
-use mathlib.Core.Bool.{Bool, true, false, not, _&&_, _||_, false≢true}
+use mathlib.Core.Bool.{Bool, true, false, not, _&&_, _||_}
 use native.Mathlib.Omega.{arith}
 use native.Mathlib.Nat.{zero-add, add-zero}
 use native.Mathlib.Decide.{decLt}
@@ -18,11 +18,11 @@ use Rattle.language.specs.Counts.{sizeOf}
 use Rattle.language.specs.Widths.{portWidth, memoryWidth}
 use Rattle.language.specs.Values.{bitOf}
 use Rattle.language.specs.Sizes.{Setting}
-use Rattle.language.specs.Meaning.{Given, portAt, isPresent, copiesIn, cellWidths, fits, inputsFit}
+use Rattle.language.specs.Meaning.{Given, portAt, isPresent, copiesIn, cellWidths, fits, presentFits, allFit, inputsFit}
 use Rattle.plan.specs.Layout.{portCount, memoryCount, memoryWidthAt, memorySizeAt, cellsBefore}
 use Rattle.plan.specs.Layout as Layout
 use Rattle.cycle.specs.Machine.{allBelow, inputFits, memoryFits}
-use Rattle.placed.proofs.Every.{every-nil, nil-every}
+use Rattle.placed.specs.Placed.{Every}
 use Rattle.planned.specs.PlanOf.{portNumber, planOf}
 use Rattle.planned.proofs.Names.{bool-iff, both-true, true-both, every-among, among-every, Distinct, index-at, index-distinct}
 use Rattle.planned.proofs.Masks.{port-below, bit-small}
@@ -48,34 +48,23 @@ module _ (p : List ℕ) (f : ℕ → Bool) where
 -- ## Inputs
 
 module _ (s : Setting) (g : Given) where
-  abbrev misfits : List ℕ → Bool
-  misfits n = isPresent s (g .mask) n && not (ltb (getD (g .values) (portAt s n) 0) (2 ^ portWidth (s .actor) (s .widths) n))
+  all-fit : (l : List (List ℕ)) → allFit s g l ≡ true → Every (λ n. presentFits s g n ≡ true) l
+  unfolding allFit
+  all-fit [] h = tt
+  all-fit (n ∷ l) h = let q = both-true (presentFits s g n) (allFit s g l) h in (q .0, all-fit l (q .1))
 
-  abbrev misfit : List ℕ → List (List ℕ)
-  misfit n = elim (misfits n) [ true ↦ n ∷ [] | false ↦ [] ]
+  fit-all : (l : List (List ℕ)) → Every (λ n. presentFits s g n ≡ true) l → allFit s g l ≡ true
+  unfolding allFit
+  fit-all [] e = refl
+  fit-all (n ∷ l) e = true-both (presentFits s g n) (allFit s g l) (e .0) (fit-all l (e .1))
 
-  inputs-are : inputsFit s g ≡ (elim (each misfit (inputNames (s .actor .ports))) [ [] ↦ true | n ∷ l ↦ false ])
+  present-fits : inputsFit s g ≡ true → (n : List ℕ) → among (inputNames (s .actor .ports)) n ≡ true → presentFits s g n ≡ true
   unfolding inputsFit
-  inputs-are = refl
+  present-fits h n a = every-among (λ m. presentFits s g m ≡ true) (inputNames (s .actor .ports)) n (all-fit (inputNames (s .actor .ports)) h) a
 
-  none-misfits : inputsFit s g ≡ true → (n : List ℕ) → among (inputNames (s .actor .ports)) n ≡ true → misfits n ≡ false
-  none-misfits h n a = one n (every-among (λ m. misfit m ≡ []) (inputNames (s .actor .ports)) n (every-nil misfit (inputNames (s .actor .ports)) (empty (each misfit (inputNames (s .actor .ports))) (sym inputs-are ∙ h))) a)
-    where
-      empty : (l : List (List ℕ)) → (elim l as (λ _. Bool) [ [] ↦ true | n ∷ m ↦ false ]) ≡ true → l ≡ []
-      empty [] e = refl
-      empty (x ∷ l) e = absurd (false≢true e)
-
-      one : (n : List ℕ) → misfit n ≡ [] → misfits n ≡ false
-      one n e = go (misfits n) e
-        where
-          go : (b : Bool) → _≡_ {A = List (List ℕ)} (elim b [ true ↦ n ∷ [] | false ↦ [] ]) [] → b ≡ false
-          go true e = let z : _≡_ {A = ℕ} 0 1 = cc in absurd (omega arith)
-          go false e = refl
-
-  misfits-none : ((n : List ℕ) → among (inputNames (s .actor .ports)) n ≡ true → misfits n ≡ false) → inputsFit s g ≡ true
-  misfits-none f =
-      let e : each misfit (inputNames (s .actor .ports)) ≡ [] = nil-every misfit (inputNames (s .actor .ports)) (among-every (λ n. misfit n ≡ []) (inputNames (s .actor .ports)) (λ n a. rw (misfit, f n a))) in
-      inputs-are ∙ rw e
+  fits-present : ((n : List ℕ) → among (inputNames (s .actor .ports)) n ≡ true → presentFits s g n ≡ true) → inputsFit s g ≡ true
+  unfolding inputsFit
+  fits-present f = fit-all (inputNames (s .actor .ports)) (among-every (λ n. presentFits s g n ≡ true) (inputNames (s .actor .ports)) f)
 
 spelled-at : (l : List Name) (i : ℕ) → i < length l → getD l i noName .spelled ≡ getD (spelledOf l) i []
 unfolding spelledOf
@@ -84,14 +73,13 @@ spelled-at (n ∷ l) zero h = refl
 spelled-at (n ∷ l) (suc i) h = spelled-at l i (omega arith)
 
 -- the plan's test of an input, and of an output
-input-test : (bit v w : ℕ) → bit < 2 → w ≤ 32 → ((eqb bit 0 || leb 256 w) || ltb v (2 ^ w)) ≡ not (eqb bit 1 && not (ltb v (2 ^ w)))
+input-test : (bit v w : ℕ) → bit < 2 → w ≤ 32 → ((eqb bit 0 || leb 256 w) || ltb v (2 ^ w)) ≡ (not (eqb bit 1) || ltb v (2 ^ w))
 input-test bit v w h k = rw (lt-leb 256 w (omega arith)) (go (eqb bit 0) (eqb bit 1) (ltb v (2 ^ w)) refl refl)
   where
-    go : (a b c : Bool) → eqb bit 0 ≡ a → eqb bit 1 ≡ b → ((a || false) || c) ≡ not (b && not c)
+    go : (a b c : Bool) → eqb bit 0 ≡ a → eqb bit 1 ≡ b → ((a || false) || c) ≡ (not b || c)
     go true true c e f = let x = eqb-true bit 0 e in let y = eqb-true bit 1 f in absurd (omega arith)
     go true false c e f = refl
-    go false true true e f = refl
-    go false true false e f = refl
+    go false true c e f = refl
     go false false c e f = let x = eqb-false bit 0 e in let y = eqb-false bit 1 f in absurd (omega arith)
 
 output-test : (a c : Bool) (w : ℕ) → ((a || leb 256 (w + 256)) || c) ≡ true
@@ -100,10 +88,6 @@ output-test a c w = rw (le-leb 256 (w + 256) (omega arith)) (go a)
     go : (a : Bool) → ((a || true) || c) ≡ true
     go true = refl
     go false = refl
-
-not-not : (b : Bool) → not b ≡ true → b ≡ false
-not-not true h = absurd (false≢true h)
-not-not false h = refl
 
 module _ (s : Setting) where
   abbrev p : List ℕ
@@ -122,8 +106,8 @@ module _ (s : Setting) where
 
   module _ (g : Given) (d : Distinct [] (s .actor .signature)) (known : (n : List ℕ) → among (inputNames (s .actor .ports)) n ≡ true → among (spelledOf (s .actor .signature)) n ≡ true)
       (small : (n : List ℕ) → portWidth (s .actor) (s .widths) n ≤ 32) where
-    input-fits : (i : ℕ) → i < length (s .actor .signature) → among (inputNames (s .actor .ports)) (named i) ≡ true → inputFits p (g .mask) (g .values) i ≡ not (misfits s g (named i))
-    unfolding inputFits isPresent portAt
+    input-fits : (i : ℕ) → i < length (s .actor .signature) → among (inputNames (s .actor .ports)) (named i) ≡ true → inputFits p (g .mask) (g .values) i ≡ presentFits s g (named i)
+    unfolding inputFits presentFits isPresent portAt
     input-fits i h a =
         let e = index-distinct [] (s .actor .signature) i d h in
         rw (input-number i h a, e) (input-test (bitOf (g .mask) i) (getD (g .values) i 0) (portWidth (s .actor) (s .widths) (named i)) (bit-small (g .mask) i) (small (named i)))
@@ -137,16 +121,16 @@ module _ (s : Setting) where
     inputs-agree =
         rw (port-count s)
         (bool-iff _ _
-        (λ h. misfits-none s g (λ n a.
+        (λ h. fits-present s g (λ n a.
         let k = known n a in
         let e = index-at (spelledOf (s .actor .signature)) n k in
         let b = port-below s n k in
         let f = input-fits (portAt s n) b (rw e a) in
-        not-not _ (rw e at (sym f ∙ all-true p (inputFits p (g .mask) (g .values)) (length (s .actor .signature)) h (portAt s n) b))))
+        rw e at (sym f ∙ all-true p (inputFits p (g .mask) (g .values)) (length (s .actor .signature)) h (portAt s n) b)))
         (λ h. true-all p (inputFits p (g .mask) (g .values)) (length (s .actor .signature)) (λ i j. go h i j (among (inputNames (s .actor .ports)) (named i)) refl)))
       where
         go : inputsFit s g ≡ true → (i : ℕ) → i < length (s .actor .signature) → (b : Bool) → among (inputNames (s .actor .ports)) (named i) ≡ b → inputFits p (g .mask) (g .values) i ≡ true
-        go h i j true a = input-fits i j a ∙ rw (none-misfits s g h (named i) a)
+        go h i j true a = input-fits i j a ∙ present-fits s g h (named i) a
         go h i j false a = output-fits i j a
 
 -- ## Cells
