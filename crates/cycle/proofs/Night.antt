@@ -10,7 +10,8 @@ use lib.Dec.{eqb, leb}
 use lib.ListN.{length, getD, set, take, drop, length-set, drop-of-length-le}
 use lib.Seq.{paste, take-paste, drop-paste, take-all, drop-cons, drop-drop, take-suc-set, lt-length-set}
 use borrow.Author.Tests.{leb-true, eqb-true, eqb-false, eq-eqb, ne-eqb}
-use Rattle.language.specs.Meaning.{Outcome}
+use Rattle.language.specs.Parts.{each}
+use Rattle.language.specs.Meaning.{Outcome, memoryLeft}
 use Rattle.plan.specs.Layout.{form, portCount, memoryCount, cellsBefore}
 use Rattle.plan.specs.Sound.{soundOf, sectionsOk, allUpTo, portOk}
 use Rattle.plan.specs.Steps.{portsPart, memoriesPart, groupsPart, rulesPart}
@@ -18,7 +19,7 @@ use Rattle.plan.proofs.Parts.{sections-parts}
 use Rattle.plan.proofs.Laws.{and-left, and-right}
 use Rattle.cycle.specs.Machine.{soundCycle, cycleOf, counts}
 use Rattle.cycle.specs.Turn.{Turned, outcome}
-use Rattle.cycle.specs.Run.{Result, result, before, turnsOf, tablesFit, runOf}
+use Rattle.cycle.specs.Run.{Result, result, before, turnsOf, tablesFit, runOf, cyclesOf, turnsIn, leftBy}
 use Rattle.cycle.proofs.Outcomes.{cycle-sound, counts-told}
 
 -- k cycles are over: what they left, and what those after them will leave
@@ -96,6 +97,15 @@ runs-end p masks values memory₀ outputs₀ k at memory outputs answers h l j r
   where
     ends-so : turnsOf p (drop k masks) (drop at values) memory (drop at outputs₀) ≡ result 0 memory [] []
     ends-so = none-left p (drop k masks) (drop at values) memory (drop at outputs₀) (drop-of-length-le masks h)
+
+-- ---- the tables of a run stand for calls of `cycle`, one after the other
+
+pub turns-are : (p masks values memory outputs : List ℕ) → turnsOf p masks values memory outputs ≡ leftBy memory (cyclesOf p (turnsIn (portCount p) masks values outputs) memory)
+unfolding turnsOf before leftBy cyclesOf turnsIn memoryLeft each
+turns-are p [] values memory outputs = refl
+turns-are p (m ∷ ms) values memory outputs =
+    let o = cycleOf p m (take (portCount p) values) memory (take (portCount p) outputs) in
+    ap (before o) (turns-are p ms (drop (portCount p) values) (o .memory) (drop (portCount p) outputs))
 
 -- ---- the tests of a run
 

@@ -6,7 +6,7 @@ use lib.Dec.{eqb, leb, ltb}
 use lib.ListN.{length, getD, set, replicate}
 use Rattle.language.specs.Limits.{limits}
 use Rattle.language.specs.Values.{bitOf, onesOf, binaryValue, unaryValue, besideOf, copiesOf, rangeOf, chosen}
-use Rattle.language.specs.Meaning.{Outcome, Change, twice, written, Turn}
+use Rattle.language.specs.Meaning.{Outcome, Change, twice, written}
 use Rattle.plan.specs.declared.Item.{Item}
 use Rattle.plan.specs.declared.Item.the-variants.{Const, Port, Let, Cell, Range, Copies, Beside, Before, Between, Choice, Arm, Keep, Assign, Write, Bad}
 use Rattle.plan.specs.Items.{decodeAll}

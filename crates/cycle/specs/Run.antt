@@ -4,7 +4,8 @@ use mathlib.Core.List.{List, [], _∷_, _++_}
 use Prim.Native.Nat.{ℕ, _*_}
 use lib.Dec.{eqb}
 use lib.ListN.{length, take, drop}
-use Rattle.language.specs.Meaning.{Outcome}
+use Rattle.language.specs.Parts.{each}
+use Rattle.language.specs.Meaning.{Outcome, Turn, memoryLeft}
 use Rattle.plan.specs.Layout.{portCount, memoryCount, cellsBefore}
 use Rattle.plan.specs.Sound.{soundOf}
 use Rattle.cycle.specs.Machine.{cycleOf}
@@ -41,3 +42,19 @@ runOf p masks values memory outputs answers =
       | false ↦ result 20 memory outputs answers
       | true ↦ elim (tablesFit p masks values memory outputs answers) [ false ↦ result 21 memory outputs answers | true ↦ turnsOf p masks values memory outputs ]
     ]
+
+-- ---- the same as calls of `cycle`, one after the other
+
+-- each with its own mask, values and output slots, and the memory that the one before left
+unfoldable pub cyclesOf : List ℕ → List Turn → List ℕ → List Outcome
+cyclesOf p [] memory = []
+cyclesOf p (t ∷ ts) memory = let o = cycleOf p (t .mask) (t .values) memory (t .outputs) in o ∷ cyclesOf p ts (o .memory)
+
+-- the cycles that the tables of a run stand for, with n ports
+unfoldable pub turnsIn : ℕ → List ℕ → List ℕ → List ℕ → List Turn
+turnsIn n [] values outputs = []
+turnsIn n (m ∷ ms) values outputs = record { mask = m; values = take n values; outputs = take n outputs } ∷ turnsIn n ms (drop n values) (drop n outputs)
+
+-- what the outcomes of a run leave in its tables
+unfoldable pub leftBy : List ℕ → List Outcome → Result
+leftBy memory os = result 0 (memoryLeft memory os) (each (λ o. o .outputs) os) (each (λ o. o .answer ∷ o .count ∷ []) os)

@@ -228,14 +228,21 @@ cycle s g outputs =
       | true ↦ elim (firing s (g .mask) (s .actor .groups)) [ unfired n ↦ refusedBy n outputs g | fired rs ↦ acts s g outputs rs ]
     ]
 
--- ---- a run: each cycle has a mask and values of its own, and the memory and outputs that the one before left
+-- ---- a run: each cycle has a mask, values and output slots of its own, and the memory that the one before left
 
+-- `outputs`: its output slots as they stood, which a refused cycle leaves so
 pub record Turn : Type 0 where
   pub mask : ℕ
   pub values : List ℕ
+  pub outputs : List ℕ
 
-unfoldable pub run : Setting → List Turn → List ℕ → List ℕ → List Outcome
-run s [] memory outputs = []
-run s (t ∷ ts) memory outputs =
-    let o = cycle s (record { mask = t .mask; values = t .values; memory = memory }) outputs in
-    o ∷ run s ts (o .memory) (o .outputs)
+unfoldable pub run : Setting → List Turn → List ℕ → List Outcome
+run s [] memory = []
+run s (t ∷ ts) memory =
+    let o = cycle s (record { mask = t .mask; values = t .values; memory = memory }) (t .outputs) in
+    o ∷ run s ts (o .memory)
+
+-- the memory that a run leaves
+unfoldable pub memoryLeft : List ℕ → List Outcome → List ℕ
+memoryLeft memory [] = memory
+memoryLeft memory (o ∷ os) = memoryLeft (o .memory) os

@@ -14,7 +14,7 @@ use Rattle.language.specs.Names.{inputNames}
 use Rattle.language.specs.Bindings.{Got, got, lost, after, byte, numberUpTo}
 use Rattle.language.specs.Sizes.{Setting}
 use Rattle.language.specs.Reading.{Answer, refused, accepted, Reads}
-use Rattle.language.specs.Meaning.{Turn, Outcome, cycle, cellWidths}
+use Rattle.language.specs.Meaning.{Outcome, cycle, cellWidths}
 
 -- ---- what is written: numbers in decimal, one blank between, a newline after each line
 
@@ -64,7 +64,11 @@ portValues ins (n ∷ ns) bs =
     ]
 
 -- "A cycle is a line: a mask under 2^32, a value .. for each input port."
-unfoldable pub turn : Actor → List ℕ → Got Turn
+pub record CycleRead : Type 0 where
+  pub mask : ℕ
+  pub values : List ℕ
+
+unfoldable pub turn : Actor → List ℕ → Got CycleRead
 turn a bs = after (numberUpTo (2 ^ 32 - 1) bs) (λ m r. after (portValues (inputNames (a .ports)) (a .signature) r) (λ l x. byte 10 x (λ y. got (record { mask = m; values = l }) y)))
 
 -- ---- the run: "input not in this form `bad` where it is met", "then all cells on one line", "a tail isn't read"

@@ -1,12 +1,12 @@
 -- A cycle of an accepted actor's plan is a cycle of the actor, and so is any run of cycles.
-use Prim.Native.Nat.{ℕ, suc, _+_, _-_, _^_, _≤_, _<_}
+use Prim.Native.Nat.{ℕ, suc, _+_, _-_, _*_, _^_, _≤_, _<_}
 use mathlib.Core.Path.{_≡_, refl, sym, ap, ap₂, _∙_, subst}
 use mathlib.Core.List.{List, [], _∷_}
 use mathlib.Core.Bool.{Bool, true, false, _&&_, false≢true, true≢false}
 use native.Mathlib.Omega.{arith}
-use native.Mathlib.Nat.{sub-add-cancel, add-zero, zero-add}
-use lib.ListN.{length, getD, set, length-set, replicate, length-append}
-use lib.Seq.{take-length}
+use native.Mathlib.Nat.{sub-add-cancel, add-zero, zero-add, suc-mul}
+use lib.ListN.{length, getD, set, take, drop, length-set, replicate, length-append, length-drop}
+use lib.Seq.{take-length, length-take-le}
 use lib.Dec.{ltb, eqb}
 use borrow.Author.Tests.{eqb-true, eq-eqb, ltb-true}
 use Rattle.language.specs.Words.{Word}
@@ -22,10 +22,12 @@ use Rattle.plan.specs.Layout.{portCount, memoryCount, cellsBefore, groupCount, 
 use Rattle.plan.specs.Sound.{soundOf}
 use Rattle.cycle.specs.Machine.{state, counts, execRules, ends, soundCycle, cycleOf}
 use Rattle.cycle.specs.Machine as Machine
+use Rattle.cycle.specs.Run.{result, tablesFit, runOf, cyclesOf, turnsIn, leftBy}
+use Rattle.cycle.proofs.Night.{turns-are, run-0, run-21, tables-told}
 use Rattle.placed.specs.Placed.{Every}
 use Rattle.placed.proofs.Every.{every-map, every-flat, every-each, every-at}
 use Rattle.planned.specs.PlanOf.{planOf}
-use Rattle.planned.specs.Cycles.{cyclesOf}
+use Rattle.planned.specs.Theorems.{RunTables}
 use Rattle.planned.specs.Accepted.{Accepted, Grammatical}
 use Rattle.planned.proofs.Effects.{backwards, twice-backwards, written-backwards}
 use Rattle.planned.proofs.Names.{both-true, every-spelled}
@@ -208,12 +210,47 @@ module _ (ws : List Word) (s : Setting) (ok : Accepted ws s) (gr : Grammatical w
           absurd (n (eqb-true _ _ (c .0) ∙ port-count s, eqb-true _ _ (c .1) ∙ port-count s, eqb-true _ _ (a .1) ∙ plan-cells s))
 
   -- and so any run of cycles, refused ones among them
-  pub plan-runs : soundOf (planOf s) ≡ true → (ts : List Turn) (memory outputs : List ℕ) → Every (λ t. length (t .values) ≡ length (s .actor .signature)) ts → length outputs ≡ length (s .actor .signature) → length memory ≡ length (cellWidths s)
-      → cyclesOf (planOf s) ts memory outputs ≡ run s ts memory outputs
+  pub plan-calls : soundOf (planOf s) ≡ true → (ts : List Turn) (memory : List ℕ) → Every (λ t. (length (t .values) ≡ length (s .actor .signature)) × (length (t .outputs) ≡ length (s .actor .signature))) ts → length memory ≡ length (cellWidths s)
+      → cyclesOf (planOf s) ts memory ≡ run s ts memory
   unfolding cyclesOf run
-  plan-runs sound [] memory outputs v o m = refl
-  plan-runs sound (t ∷ ts) memory outputs v o m =
+  plan-calls sound [] memory v m = refl
+  plan-calls sound (t ∷ ts) memory v m =
       let g : Given = record { mask = t .mask; values = t .values; memory = memory } in
-      let l = cycle-long s g outputs o in
-      let q = plan-means (t .mask) (t .values) memory outputs sound (v .0) o m in
-      ap₂ _∷_ q (ap (λ (r : Outcome). cyclesOf (planOf s) ts (r .memory) (r .outputs)) q ∙ plan-runs sound ts (cycle s g outputs .memory) (cycle s g outputs .outputs) (v .1) (l .1) (l .0 ∙ m))
+      let l = cycle-long s g (t .outputs) (v .0 .1) in
+      let q = plan-means (t .mask) (t .values) memory (t .outputs) sound (v .0 .0) (v .0 .1) m in
+      ap₂ _∷_ q (ap (λ (r : Outcome). cyclesOf (planOf s) ts (r .memory)) q ∙ plan-calls sound ts (cycle s g (t .outputs) .memory) (v .1) (l .0 ∙ m))
+
+  -- ## The tables of `run`
+
+  -- each cycle has its part of the tables
+  turns-long : (n : ℕ) (masks values outputs : List ℕ) → length values ≡ length masks * n → length outputs ≡ length masks * n → Every (λ t. (length (t .values) ≡ n) × (length (t .outputs) ≡ n)) (turnsIn n masks values outputs)
+  unfolding turnsIn
+  turns-long n [] values outputs v o = tt
+  turns-long n (m ∷ ms) values outputs v o =
+      let e = suc-mul (length ms) n in
+      let part : (l : List ℕ) → length l ≡ suc (length ms) * n → (length (take n l) ≡ n) × (length (drop n l) ≡ length ms * n) =
+      λ l h. (length-take-le n l (omega arith), length-drop n l ∙ omega arith) in
+      ((part values v .0, part outputs o .0), turns-long n ms (drop n values) (drop n outputs) (part values v .1) (part outputs o .1))
+
+  module _ (sound : soundOf (planOf s) ≡ true) (masks values memory outputs answers : List ℕ) where
+    tables-fit : RunTables s masks values memory outputs answers → tablesFit p masks values memory outputs answers ≡ true
+    unfolding tablesFit
+    tables-fit t = rw (port-count s, plan-cells s, eq-eqb _ _ (t .inputs), eq-eqb _ _ (t .slots), eq-eqb _ _ (t .told), eq-eqb _ _ (t .cells))
+
+    -- THE THEOREM: `run` of the plan is a run of the actor
+    pub plan-runs : RunTables s masks values memory outputs answers → runOf (planOf s) masks values memory outputs answers ≡ leftBy memory (run s (turnsIn (length (s .actor .signature)) masks values outputs) memory)
+    plan-runs t =
+        run-0 p masks values memory outputs answers sound (tables-fit t) ∙ turns-are p masks values memory outputs
+        ∙ ap (λ (n : ℕ). leftBy memory (cyclesOf p (turnsIn n masks values outputs) memory)) (port-count s)
+        ∙ ap (leftBy memory) (plan-calls sound (turnsIn (length (s .actor .signature)) masks values outputs) memory (turns-long _ masks values outputs (t .inputs) (t .slots)) (t .cells))
+
+    -- 21 where the lengths are others
+    pub plan-unfit : (RunTables s masks values memory outputs answers → ⊥) → runOf (planOf s) masks values memory outputs answers ≡ result 21 memory outputs answers
+    plan-unfit n = run-21 p masks values memory outputs answers sound (others (tablesFit p masks values memory outputs answers) refl)
+      where
+        others : (b : Bool) → tablesFit p masks values memory outputs answers ≡ b → tablesFit p masks values memory outputs answers ≡ false
+        others false e = e
+        others true e =
+            let q = tables-told p masks values memory outputs answers e in
+            let w = ap (λ (k : ℕ). length masks * k) (port-count s) in
+            absurd (n (record { inputs = q .0 ∙ w; slots = q .1 ∙ w; told = q .2; cells = q .3 ∙ plan-cells s }))

@@ -13,7 +13,7 @@ use Rattle.language.proofs.Main.{grammar-correct}
 use Rattle.placed.specs.Placed.{Every}
 use Rattle.planned.specs.Accepted.{Accepted, NumberWord}
 use Rattle.planned.specs.Theorems.{Planned}
-use Rattle.planned.proofs.Means.{plan-means, plan-uncounted, plan-runs}
+use Rattle.planned.proofs.Means.{plan-means, plan-uncounted, plan-calls, plan-runs, plan-unfit}
 use Rattle.planned.proofs.SoundPlan.{plan-sound}
 use Rattle.planned.proofs.Short.{plan-short}
 use Rattle.planned.proofs.PlanSmall.{plan-small}
@@ -36,7 +36,9 @@ accepted-planned ws s ok d n l =
       memories = memories-resolved ws s ok gr;
       means = λ mask values memory outputs v o m. plan-means ws s ok gr mask values memory outputs sound v o m;
       uncounted = λ mask values memory outputs n. plan-uncounted ws s ok gr mask values memory outputs sound n;
-      runs = λ ts memory outputs v o m. plan-runs ws s ok gr sound ts memory outputs v o m;
+      calls = λ ts memory v m. plan-calls ws s ok gr sound ts memory v m;
+      runs = λ masks values memory outputs answers t. plan-runs ws s ok gr sound masks values memory outputs answers t;
+      unfit = λ masks values memory outputs answers n. plan-unfit ws s ok gr sound masks values memory outputs answers n;
     }
 
 -- THE THEOREM: two texts that are read as accepted have a plan as it should be

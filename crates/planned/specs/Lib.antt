@@ -1,6 +1,5 @@
 pub mod PlanOf
 pub mod Formed
 pub mod Accepted
-pub mod Cycles
 pub mod Lengths
 pub mod Theorems

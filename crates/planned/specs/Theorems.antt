@@ -14,9 +14,16 @@ use Rattle.language.specs.Meaning.{Outcome, Turn, cellWidths, cycle, run}
 use Rattle.plan.specs.Layout.{portCount, portAt, memoryWidthAt}
 use Rattle.plan.specs.Sound.{soundOf}
 use Rattle.cycle.specs.Machine.{cycleOf}
+use Rattle.cycle.specs.Run.{result, runOf, cyclesOf, turnsIn, leftBy}
 use Rattle.placed.specs.Placed.{Every}
 use Rattle.planned.specs.PlanOf.{planOf}
-use Rattle.planned.specs.Cycles.{cyclesOf}
+
+-- the tables of a run: a value and an output slot for each port, and two numbers for answer and count, for each mask; a number for each cell
+pub record RunTables (s : Setting) (masks values memory outputs answers : List ℕ) : Type 0 where
+  pub inputs : length values ≡ length masks * length (s .actor .signature)
+  pub slots : length outputs ≡ length masks * length (s .actor .signature)
+  pub told : length answers ≡ length masks * 2
+  pub cells : length memory ≡ length (cellWidths s)
 
 -- of the actor of a setting, read from these words
 pub record Planned (ws : List Word) (s : Setting) : Type 0 where
@@ -31,13 +38,18 @@ pub record Planned (ws : List Word) (s : Setting) : Type 0 where
   -- a cycle of it is a cycle of the actor
   pub means : (mask : ℕ) (values memory outputs : List ℕ) → length values ≡ length (s .actor .signature) → length outputs ≡ length (s .actor .signature) → length memory ≡ length (cellWidths s)
       → cycleOf (planOf s) mask values memory outputs ≡ cycle s (record { mask = mask; values = values; memory = memory }) outputs
-  -- and so is any run of cycles, refused ones among them
-  pub runs : (ts : List Turn) (memory outputs : List ℕ) → Every (λ t. length (t .values) ≡ length (s .actor .signature)) ts → length outputs ≡ length (s .actor .signature) → length memory ≡ length (cellWidths s)
-      → cyclesOf (planOf s) ts memory outputs ≡ run s ts memory outputs
+  -- and so is any run of cycles, refused ones among them: `cycle` called again and again, each time with output slots of its own
+  pub calls : (ts : List Turn) (memory : List ℕ) → Every (λ t. (length (t .values) ≡ length (s .actor .signature)) × (length (t .outputs) ≡ length (s .actor .signature))) ts → length memory ≡ length (cellWidths s)
+      → cyclesOf (planOf s) ts memory ≡ run s ts memory
+  -- and `run`, over tables that fit
+  pub runs : (masks values memory outputs answers : List ℕ) → RunTables s masks values memory outputs answers
+      → runOf (planOf s) masks values memory outputs answers ≡ leftBy memory (run s (turnsIn (length (s .actor .signature)) masks values outputs) memory)
   -- "21 values or outputs not one per port, or memory not one per cell"
   pub uncounted : (mask : ℕ) (values memory outputs : List ℕ)
       → ((length values ≡ length (s .actor .signature)) × (length outputs ≡ length (s .actor .signature)) × (length memory ≡ length (cellWidths s)) → ⊥)
       → cycleOf (planOf s) mask values memory outputs ≡ record { answer = 21; count = 0; outputs = outputs; memory = memory }
+  pub unfit : (masks values memory outputs answers : List ℕ) → (RunTables s masks values memory outputs answers → ⊥)
+      → runOf (planOf s) masks values memory outputs answers ≡ result 21 memory outputs answers
 
 -- two cycles of any plan: alike in mask, memory, lengths and the values of present inputs
 pub record SameGiven (p : List ℕ) (mask : ℕ) (v w x y : List ℕ) : Type 0 where

@@ -8,8 +8,8 @@ use lib.ListN.{length, take, drop, length-take, length-append}
 use lib.Seq.{take-at, length-take-le}
 use Rattle.language.specs.Bindings.{Got, got, lost}
 use Rattle.language.specs.Sizes.{Setting}
-use Rattle.language.specs.Meaning.{Turn, Given, Outcome, cycle, cellWidths}
-use Rattle.language.specs.Worked.{isBad, line, cycleLine, turn, cycles}
+use Rattle.language.specs.Meaning.{Given, Outcome, cycle, cellWidths}
+use Rattle.language.specs.Worked.{CycleRead, isBad, line, cycleLine, turn, cycles}
 use Rattle.planned.specs.PlanOf.{planOf}
 use Rattle.cycle.specs.Machine.{cycleOf}
 use Rattle.tipirun.specs.declared.state.Stage.{Stage}
@@ -25,7 +25,7 @@ use Rattle.tipirun.proofs.TextRuns.{still-comes}
 use Rattle.tipirun.proofs.Lengths.{cycle-cells, cycle-slots}
 use Rattle.tipirun.proofs.LineValues.{After, Slots, Run, Turns, planTurn, turn-run}
 
-abbrev pub givenOf : Turn → List ℕ → Given
+abbrev pub givenOf : CycleRead → List ℕ → Given
 givenOf t memory = record { mask = t .mask; values = t .values; memory = memory }
 
 -- a plan as its text has it
@@ -63,7 +63,7 @@ module _ (s : Setting) (a : Agrees s) where
       ∙ ap (λ (p : List ℕ). line (take (cellsOf p) (m .memory))) (x .plan) ∙ ap line (x .cells)
 
   -- a cycle of the machine is a cycle of the text
-  done-is : (m : Machine) (t : State) (memory outputs v : List ℕ) (u : Turn) → AtLine m t memory outputs → Slots (planOf s) v → take (portsOf (planOf s)) v ≡ u .values → doneOf (planOf s) (u .mask) v (m .outputs) (m .memory) ≡ cycle s (givenOf u memory) outputs
+  done-is : (m : Machine) (t : State) (memory outputs v : List ℕ) (u : CycleRead) → AtLine m t memory outputs → Slots (planOf s) v → take (portsOf (planOf s)) v ≡ u .values → doneOf (planOf s) (u .mask) v (m .outputs) (m .memory) ≡ cycle s (givenOf u memory) outputs
   unfolding doneOf
   done-is m t memory outputs v u x w e =
       ap (λ (l : List ℕ). cycleOf (planOf s) (u .mask) l (take (cellsOf (planOf s)) (m .memory)) (take (portsOf (planOf s)) (m .outputs))) e
@@ -72,7 +72,7 @@ module _ (s : Setting) (a : Agrees s) where
 
   -- ---- one cycle: the line that is written for it, and the machine before the next
 
-  module _ (m : Machine) (t : State) (memory outputs v : List ℕ) (u : Turn) (x : AtLine m t memory outputs) (w : Slots (planOf s) v) (e : take (portsOf (planOf s)) v ≡ u .values) where
+  module _ (m : Machine) (t : State) (memory outputs v : List ℕ) (u : CycleRead) (x : AtLine m t memory outputs) (w : Slots (planOf s) v) (e : take (portsOf (planOf s)) v ≡ u .values) where
     line-is : turnedOf t (u .mask) (planOf s) v (m .outputs) (m .memory) .wrote ≡ cycleLine (s .actor) (cycle s (givenOf u memory) outputs)
     unfolding turnedOf outputsAfter
     line-is =
@@ -120,7 +120,7 @@ module _ (s : Setting) (a : Agrees s) where
   abbrev Tells : ℕ → Type 0
   Tells k = (m : Machine) (t : State) (memory outputs bs out : List ℕ) → AtLine m t memory outputs → t .left ≡ k → Enters (stated m t) bs out → out ≡ cycles s k memory outputs bs
 
-  by-turn : (k : ℕ) → Tells k → (m : Machine) (t : State) (memory outputs out : List ℕ) → AtLine m t memory outputs → t .left ≡ suc k → (z : Got Turn) → Turns (planOf s) t m out z
+  by-turn : (k : ℕ) → Tells k → (m : Machine) (t : State) (memory outputs out : List ℕ) → AtLine m t memory outputs → t .left ≡ suc k → (z : Got CycleRead) → Turns (planOf s) t m out z
       → out ≡ elim z [ lost r ↦ isBad | got u r ↦ cycleLine (s .actor) (cycle s (givenOf u memory) outputs) ++ cycles s k (cycle s (givenOf u memory) outputs .memory) (cycle s (givenOf u memory) outputs .outputs) r ]
   unfolding Turns
   by-turn k ih m t memory outputs out x l (lost r) y = y

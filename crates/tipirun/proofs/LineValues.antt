@@ -10,8 +10,7 @@ use lib.Dec.{eqb, leb, ltb}
 use lib.ListN.{length, getD, take, drop, set, length-set}
 use lib.Seq.{take-suc, take-suc-set, getD-set-other}
 use Rattle.language.specs.Bindings.{Got, got, lost, after, byte, numberUpTo}
-use Rattle.language.specs.Meaning.{Turn}
-use Rattle.language.specs.Worked.{isBad}
+use Rattle.language.specs.Worked.{CycleRead, isBad}
 use Rattle.plan.specs.Layout.{portAt}
 use Rattle.tipirun.specs.declared.state.Stage.{Stage}
 use Rattle.tipirun.specs.declared.state.Stage.the-variants.{Line}
@@ -252,11 +251,11 @@ module _ (p : List ℕ) where
 
   -- ---- a whole line, by the plan
 
-  unfoldable pub planTurn : List ℕ → Got Turn
+  unfoldable pub planTurn : List ℕ → Got CycleRead
   planTurn bs = after (numberUpTo 4_294_967_295 bs) (λ v r. after (valuesFrom (portsOf p) 0 r) (λ l x. byte 10 x (λ y. got (record { mask = v; values = l }) y)))
 
   -- what is written where a line is read so: the cycle is run with its mask and its values
-  unfoldable pub Turns : State → Machine → List ℕ → Got Turn → Type 0
+  unfoldable pub Turns : State → Machine → List ℕ → Got CycleRead → Type 0
   Turns s m out (lost y) = out ≡ isBad
   Turns s m out (got t y) = Run s m (t .mask) [] (t .values) y out
 

@@ -10,8 +10,8 @@ use native.Mathlib.Omega.{arith}
 use borrow.Author.Tests.{eqb-true}
 use Rattle.language.specs.Text.{Name, among}
 use Rattle.language.specs.Bindings.{Got, got, lost, after, byte, numberUpTo}
-use Rattle.language.specs.Worked.{line, portValues, turn, outputSlots, cycleLine}
-use Rattle.language.specs.Meaning.{Turn, Outcome}
+use Rattle.language.specs.Worked.{CycleRead, line, portValues, turn, outputSlots, cycleLine}
+use Rattle.language.specs.Meaning.{Outcome}
 use Rattle.language.specs.Names.{inputNames}
 use Rattle.language.specs.Tree.{Actor}
 use Rattle.plan.specs.Layout.{portAt}
@@ -37,8 +37,8 @@ values-agree p ins (n ∷ ns) i (a-port e k) bs =
 pub turns-agree : (a : Actor) (p : List ℕ) → portsOf p ≡ length (a .signature) → Kinds p (inputNames (a .ports)) 0 (a .signature) → (bs : List ℕ) → planTurn p bs ≡ turn a bs
 unfolding planTurn turn
 turns-agree a p e k bs =
-    ap (λ (n : ℕ). after {T = Turn} (numberUpTo 4_294_967_295 bs) (λ v r. after (valuesFrom p n 0 r) (λ l x. byte 10 x (λ y. got (record { mask = v; values = l }) y)))) e
-    ∙ ap (λ (f : List ℕ → Got (List ℕ)). after {T = Turn} (numberUpTo 4_294_967_295 bs) (λ v r. after (f r) (λ l x. byte 10 x (λ y. got (record { mask = v; values = l }) y)))) (fun-ext (λ r. values-agree p (inputNames (a .ports)) (a .signature) 0 k r))
+    ap (λ (n : ℕ). after {T = CycleRead} (numberUpTo 4_294_967_295 bs) (λ v r. after (valuesFrom p n 0 r) (λ l x. byte 10 x (λ y. got (record { mask = v; values = l }) y)))) e
+    ∙ ap (λ (f : List ℕ → Got (List ℕ)). after {T = CycleRead} (numberUpTo 4_294_967_295 bs) (λ v r. after (f r) (λ l x. byte 10 x (λ y. got (record { mask = v; values = l }) y)))) (fun-ext (λ r. values-agree p (inputNames (a .ports)) (a .signature) 0 k r))
 
 -- ---- the outputs of a cycle's line
 

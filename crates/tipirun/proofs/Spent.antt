@@ -11,8 +11,8 @@ use Rattle.language.specs.Tree.{Actor}
 use Rattle.language.specs.Names.{inputNames}
 use Rattle.language.specs.Bindings.{Got, got, lost, after, byte, numberUpTo}
 use Rattle.language.specs.Sizes.{Setting}
-use Rattle.language.specs.Meaning.{Turn, cycle}
-use Rattle.language.specs.Worked.{isBad, cycleLine, anyNumber, counted, portValues, turn, cycles, inputOf}
+use Rattle.language.specs.Meaning.{cycle}
+use Rattle.language.specs.Worked.{CycleRead, isBad, cycleLine, anyNumber, counted, portValues, turn, cycles, inputOf}
 use Rattle.tipirun.proofs.CountLines.{lineEnd}
 use Rattle.tipirun.proofs.TextRuns.{restLength, number-length, counted-length}
 use Rattle.tipirun.proofs.CycleRuns.{givenOf}
@@ -82,9 +82,9 @@ turn-leaves a bs =
 abbrev Same : Setting → ℕ → ℕ → Type 0
 Same s j k = (memory outputs bs : List ℕ) → length bs < j → length bs < k → cycles s j memory outputs bs ≡ cycles s k memory outputs bs
 
-one-cycle : (s : Setting) (j k n : ℕ) → Same s j k → (memory outputs : List ℕ) → n ≤ j → n ≤ k → (z : Got Turn) → Leaves n z
-    → _≡_ {A = List ℕ} (elim z as (λ (y : Got Turn). List ℕ) [ lost r ↦ isBad | got t r ↦ cycleLine (s .actor) (cycle s (givenOf t memory) outputs) ++ cycles s j (cycle s (givenOf t memory) outputs .memory) (cycle s (givenOf t memory) outputs .outputs) r ])
-    (elim z as (λ (y : Got Turn). List ℕ) [ lost r ↦ isBad | got t r ↦ cycleLine (s .actor) (cycle s (givenOf t memory) outputs) ++ cycles s k (cycle s (givenOf t memory) outputs .memory) (cycle s (givenOf t memory) outputs .outputs) r ])
+one-cycle : (s : Setting) (j k n : ℕ) → Same s j k → (memory outputs : List ℕ) → n ≤ j → n ≤ k → (z : Got CycleRead) → Leaves n z
+    → _≡_ {A = List ℕ} (elim z as (λ (y : Got CycleRead). List ℕ) [ lost r ↦ isBad | got t r ↦ cycleLine (s .actor) (cycle s (givenOf t memory) outputs) ++ cycles s j (cycle s (givenOf t memory) outputs .memory) (cycle s (givenOf t memory) outputs .outputs) r ])
+    (elim z as (λ (y : Got CycleRead). List ℕ) [ lost r ↦ isBad | got t r ↦ cycleLine (s .actor) (cycle s (givenOf t memory) outputs) ++ cycles s k (cycle s (givenOf t memory) outputs .memory) (cycle s (givenOf t memory) outputs .outputs) r ])
 unfolding Leaves
 one-cycle s j k n ih memory outputs h l (lost r) w = refl
 one-cycle s j k n ih memory outputs h l (got t r) w =
