@@ -57,7 +57,7 @@ front (b ∷ r) =
 -- ---- the line at a place
 
 -- the line that starts where the place's line does, up to its line end
-unfoldable found : List ℕ → ℕ → Line
+unfoldable pub found : List ℕ → ℕ → Line
 found text p = record { from = startOf text p; bytes = upToEnd (drop (startOf text p) text) }
 
 -- as `lineFrom` goes: the line starts at `from`, and `before`, its bytes so far, hold no line end
@@ -149,29 +149,36 @@ outside (b ∷ r) (suc p) from before h =
 -- ---- what `of` hands out
 
 module _ (text : List ℕ) (place : ℕ) where
-  line-inside : place < length text → lineFrom 0 [] text place ≡ found text place
+  pub line-inside : place < length text → lineFrom 0 [] text place ≡ found text place
   unfolding startOf
   line-inside h =
       let there : 0 + length {A = ℕ} [] + place ≡ place = omega arith in
       inside text place text 0 [] (record { stands = refl; starts = refl; endless = λ l. refl }) h ∙ ap (found text) there
 
-  pub part-inside : (from to : ℕ) → from ≡ startOf text place → to ≡ endOf text from → place < length text → LineStands text (lineFrom 0 [] text place) (take (to - from) (drop from text))
-  unfolding endOf found
-  part-inside from to s e h =
-      rw (line-inside h, ← s, whole) (record { bytes = refl; part = front (drop from text) })
-    where
-      long : to - from ≡ length (upToEnd (drop from text))
-      long = omega arith
-
-      whole : take (to - from) (drop from text) ≡ upToEnd (drop from text)
-      whole = ap (λ (n : ℕ). take n (drop from text)) long ∙ front (drop from text)
-
-  pub part-outside : length text ≤ place → LineStands text (lineFrom 0 [] text place) (take (length text - length text) (drop (length text) text))
+  pub line-outside : length text ≤ place → lineFrom 0 [] text place ≡ record { from = length text; bytes = [] }
   unfolding ended
-  part-outside h = rw (outside text place 0 [] h, empty) (record { bytes = refl; part = refl })
-    where
-      none : length text - length text ≡ 0
-      none = omega arith
+  line-outside h = let there : 0 + length {A = ℕ} [] + length text ≡ length text = omega arith in outside text place 0 [] h ∙ ap ended there
 
-      empty : take (length text - length text) (drop (length text) text) ≡ []
-      empty = ap (λ (n : ℕ). take n (drop (length text) text)) none
+  -- the part that begins `from` bytes into the text, which lies there
+  module _ (lies : ℕ × ℕ) where
+    pub part-inside : (from to : ℕ) → from ≡ startOf text place → to ≡ endOf text from → place < length text
+        → LineStands text lies (lineFrom 0 [] text place) (take (to - from) (drop from text)) (lies .0, from + lies .1)
+    unfolding endOf found
+    part-inside from to s e h =
+        rw (line-inside h, ← s, whole) (record { bytes = refl; part = front (drop from text); block = refl; begins = omega arith })
+      where
+        long : to - from ≡ length (upToEnd (drop from text))
+        long = omega arith
+
+        whole : take (to - from) (drop from text) ≡ upToEnd (drop from text)
+        whole = ap (λ (n : ℕ). take n (drop from text)) long ∙ front (drop from text)
+
+    pub part-outside : length text ≤ place → LineStands text lies (lineFrom 0 [] text place) (take (length text - length text) (drop (length text) text)) (lies .0, length text + lies .1)
+    unfolding ended
+    part-outside h = rw (outside text place 0 [] h, empty) (record { bytes = refl; part = refl; block = refl; begins = omega arith })
+      where
+        none : length text - length text ≡ 0
+        none = omega arith
+
+        empty : take (length text - length text) (drop (length text) text) ≡ []
+        empty = ap (λ (n : ℕ). take n (drop (length text) text)) none

@@ -7,7 +7,7 @@ ghost use mathlib.Core.List.{[]};
 ghost use Prim.Native.Nat.{_≤_};
 ghost use lib.ListN.{length};
 ghost use Rattle.language.specs.Text.{lineFrom, lineAt};
-ghost use Rattle.lines.specs.Bounds.{startOf, endOf, textOf, LineStands};
+ghost use Rattle.lines.specs.Bounds.{startOf, endOf, ofText, LineStands};
 
 // Where the line of a place starts: past the last line end before the place, since a line end belongs to the line that it ends.
 fn start(text: &[u8], place: usize) -> usize
@@ -41,10 +41,11 @@ fn end(text: &[u8], from: usize) -> usize
 
 // The line at a place of one text.
 fn of(text: &[u8], place: usize) -> &[u8]
-    ensures { λ r. ⌜ LineStands (now (text .entry)) (lineFrom 0 [] (now (text .entry)) place) (now r) ⌝ }
+    ensures { λ r. ⌜ LineStands (now (text .entry)) (text .entry .ptr) (lineFrom 0 [] (now (text .entry)) place) (now r) (r .ptr) ⌝ }
 {
-    if text.len() <= place {
-        return &text[text.len()..];
+    let last = text.len();
+    if last <= place {
+        return &text[last..last];
     }
     let from = start(text, place);
     let to = end(text, from);
@@ -53,7 +54,7 @@ fn of(text: &[u8], place: usize) -> &[u8]
 
 // The line at a place, out of the text that the place names.
 pub fn line<'a>(actor: &'a [u8], bindings: &'a [u8], which: Text, place: usize) -> &'a [u8]
-    ensures { λ r. ⌜ LineStands (textOf (now (actor .entry)) (now (bindings .entry)) which) (lineAt (now (actor .entry)) (now (bindings .entry)) which place) (now r) ⌝ }
+    ensures { λ r. ⌜ LineStands (ofText (now (actor .entry)) (now (bindings .entry)) which) (ofText (actor .entry .ptr) (bindings .entry .ptr) which) (lineAt (now (actor .entry)) (now (bindings .entry)) which place) (now r) (r .ptr) ⌝ }
 {
     match which {
         Text::Actor => of(actor, place),

@@ -15,7 +15,7 @@ part-result-end : tie.Need-part-result-end
 part-result-end c = search needs
 
 returns : tie.Need-returns
-returns c = part-outside (c .before .before .before .args .text .now) (c .before .before .before .args .place) (omega arith)
+returns c = part-outside (c .before .before .before .args .text .now) (c .before .before .before .args .place) (c .before .before .before .args .text .ptr) (omega arith)
 
 start-requires : tie.Need-start-requires
 start-requires c κs = search needs
@@ -33,7 +33,7 @@ part-result-end-2 : tie.Need-part-result-end-2
 part-result-end-2 c = search needs
 
 returns-2 : tie.Need-returns-2
-returns-2 c = part-inside (c .before .before .before .before .before .args .text .now) (c .before .before .before .before .before .args .place) (c .before .before .start .result) (c .before .end .result) (c .before .before .start .ensures .1) (c .before .end .ensures .2) (omega arith)
+returns-2 c = part-inside (c .before .before .before .before .before .args .text .now) (c .before .before .before .before .before .args .place) (c .before .before .before .before .before .args .text .ptr) (c .before .before .start .result) (c .before .end .result) (c .before .before .start .ensures .1) (c .before .end .ensures .2) (omega arith)
 
 pub of-spec : {M : Type 1} → statement M
 of-spec =
