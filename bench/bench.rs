@@ -97,7 +97,7 @@ fn rule_sound(p: &[u32], code: &[u32], present: u32, taken: u32) -> Option<u32> 
         let w = match item[0] {
             0 => { holds(a <= 64 && b as u64 | (c as u64) << 32 <= ones(a))?; a }
             1 => { let w = port(a)?; holds(b == 0 && c == 0 && w <= 32)?; w }
-            2 => { holds(b == 0 && c == 0)?; (*slots.get(a as usize)?)? }
+            2 => { holds(a < 16 && b == 0 && c == 0)?; slots[a as usize]? }
             3 => { ws.pop()?; memory_width(p, a, b, c)? }
             4 => { let x = ws.pop()?; holds(c == 0 && a < x && b < x)?; a.abs_diff(b) + 1 }
             5 => { let x = ws.pop()?; holds(c == 0 && b == x && a <= 64)?; a * x }
@@ -109,8 +109,13 @@ fn rule_sound(p: &[u32], code: &[u32], present: u32, taken: u32) -> Option<u32> 
                 match a { 0 => x + y, 1 | 2 | 5 | 6 => x, 3 | 4 | 13..=18 => x.max(y), 7..=12 | 19 | 20 => 1, _ => return None }
             }
             9 => { let (y, x) = (ws.pop()?, ws.pop()?); ws.pop()?; holds(a == 0 && b == 0 && c == 0)?; x.max(y) }
-            10 => { let (y, x) = (ws.pop()?, ws.pop()?); holds(c == 0)?; (*slots.get(b as usize)?)?; x.max(y) }
-            11 => { let x = ws.pop()?; holds(c == 0 && x <= b && b <= 64)?; *slots.get_mut(a as usize)? = Some(b); continue }
+            10 => { let (y, x) = (ws.pop()?, ws.pop()?); holds(b >= 16 && c == 0)?; (*slots.get(b as usize)?)?; x.max(y) }
+            11 => {
+                let (x, slot) = (ws.pop()?, slots.get_mut(a as usize)?);
+                holds(c == 0 && x <= b && b <= 64 && (a >= 16 || slot.is_none()))?;
+                *slot = Some(b);
+                continue
+            }
             12 => {
                 let (x, w) = (ws.pop()?, port(a)?);
                 holds(b == 0 && c == 0 && w >= 256 && x <= w - 256 && (assigned | taken) >> a & 1 == 0)?;
@@ -391,10 +396,11 @@ impl Writer<'_> {
         most
     }
 
+    // a `val`; where the rule has its 16, a slot of a `case`, which nothing reads
     fn keep(&mut self, depth: u32) {
         let w = self.expression(depth, 0);
-        let k = if self.slots.len() < 16 { self.slots.push(w); self.slots.len() - 1 } else { self.rng.below(16) as usize };
-        self.slots[k] = w;
+        let k = self.slots.len();
+        if k < 16 { self.slots.push(w); }
         self.put(11, k as u32, w, 0);
     }
 
@@ -407,7 +413,8 @@ impl Writer<'_> {
     fn rule(&mut self, m: usize, port: usize, items: usize, again: bool) {
         let most = if again { 60 } else { items };
         while self.code.len() + 60 < most.max(100) { self.keep(3); }
-        let block = self.code.clone();
+        // a `val` is kept once: where its statement comes again, in a slot of a `case`
+        let block: Vec<_> = self.code.iter().map(|i| if i[0] == 11 { [11, i[1].max(16), i[2], 0] } else { *i }).collect();
         while again && self.code.len() + block.len() + 100 < items { self.code.extend(&block); }
         if m < self.plan.memories.len() { for cell in 0..(items / 100).min(12) { self.write(m, cell as u32, 2); } }
         self.assign(port, 3);

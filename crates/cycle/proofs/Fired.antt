@@ -8,12 +8,15 @@ use lib.Dec.{eqb, leb, ltb}
 use lib.ListN.{length, getD, take}
 use lib.Seq.{getD-take}
 use borrow.Author.Tests.{ltb-true, leb-true, eqb-true, eqb-false, ne-eqb, lt-leb}
+use Rattle.language.specs.Limits.{limits}
 use Rattle.language.specs.Values.{bitOf, orOf}
-use Rattle.plan.specs.Layout.{portCount, portAt, memoryCount, memoryWidthAt, memorySizeAt, cellsBefore, groupCount, groupAt, rulesBefore, ruleCount, presentAt, absentAt}
+use Rattle.plan.specs.Items.{decodeAll}
+use Rattle.plan.specs.Layout.{portCount, portAt, memoryCount, memoryWidthAt, memorySizeAt, cellsBefore, groupCount, groupAt, rulesBefore, ruleCount, presentAt, absentAt, codeAt}
 use Rattle.plan.specs.Sound.{inputOk, memoryOk, sectionsOk, Ended, ended, unended, ruleCheck, joined, groupCheck, groupsCheck, soundOf}
 use Rattle.plan.specs.Steps.{rulesOf}
 use Rattle.plan.proofs.Laws.{and-left, and-right}
 use Rattle.plan.proofs.Parts.{ports-few, group-rules, rule-whole, rule-inside}
+use Rattle.plan.proofs.Vals.{valsKept, vals-few}
 use Rattle.cycle.specs.Machine.{bitsAgree, matchesOf, matching, Fired, fired, unfired, firing, allBelow, inputFits, memoryFits, fitting}
 use Rattle.cycle.specs.Safety.{CodeGiven}
 use Rattle.cycle.specs.Fire.{Fires, firedAt}
@@ -163,6 +166,14 @@ sound-sections p h = go (sectionsOk p) refl h
     go : (b : Bool) → sectionsOk p ≡ b → elim b [ true ↦ groupsCheck p 0 0 (groupCount p) | false ↦ false ] ≡ true → (sectionsOk p ≡ true) × (groupsCheck p 0 0 (groupCount p) ≡ true)
     go true e k = (e, k)
     go false e k = absurd (false≢true k)
+
+-- "`val`s 16 in a rule": in each rule of each group
+pub sound-vals : (p : List ℕ) → soundOf p ≡ true → (j k : ℕ) → j < groupCount p → k < groupAt p j → valsKept (decodeAll (codeAt p (rulesBefore p j + k))) ≤ limits .vals
+sound-vals p h j k a b =
+    let c = groups-checked p 0 0 (groupCount p) (sound-sections p h .1) j a in
+    let z : 0 + j ≡ j = omega arith in
+    let d = group-checked p (c .0) (c .0) (rulesBefore p j) (groupAt p j) (c .1) (rw z at (c .2)) (rulesBefore p j + k) (omega arith) (omega arith) in
+    vals-few p (c .0) (rulesBefore p j + k) (d .0) (d .1)
 
 pub fires : (p : List ℕ) (mask : ℕ) (values memory l : List ℕ) → soundOf p ≡ true → fitting p mask values memory ≡ true → length values ≡ portCount p → length memory ≡ cellsBefore p (memoryCount p)
     → firing p mask 0 (groupCount p) ≡ fired l → (j : ℕ) → j < groupCount p → Fires p values memory (getD l j 0)

@@ -17,9 +17,9 @@ use Rattle.value.proofs.Fits.{binary-fits, unary-fits, beside-fits, beside-with
 use Rattle.plan.specs.declared.Item.{Item}
 use Rattle.plan.specs.declared.Item.the-variants.{Const, Port, Let, Cell, Range, Copies, Beside, Before, Between, Choice, Arm, Keep, Assign, Write, Bad}
 use Rattle.plan.specs.Layout.{portCount, portAt, memoryWidthAt}
-use Rattle.plan.specs.Sound.{Check, check, broken, Rules, push, test, check1, checkAll, endOf, Ended, ended, unended, inputOk, outputOk, memoryOk, slotWidth, unset}
+use Rattle.plan.specs.Sound.{Check, check, broken, Rules, push, test, check1, checkAll, endOf, Ended, ended, unended, inputOk, outputOk, memoryOk, slotWidth, keepable, unset}
 use Rattle.plan.specs.Steps.{rulesOf, top, takesOf, actsOf, widthIf, widthOf, pushOver}
-use Rattle.plan.proofs.Laws.{and-left, and-right, pushes, output-facts}
+use Rattle.plan.proofs.Laws.{and-left, and-right, pushes, keepable-there, output-facts}
 use Rattle.plan.proofs.Turns.{check-broken}
 use Rattle.cycle.specs.Machine.{State, state, cellOf, pick, writeTo, exec1}
 use Rattle.cycle.specs.Ready.{valueOf, Asks}
@@ -137,7 +137,9 @@ module _ (p : List ℕ) (present : ℕ) (values memory lw lv os : List ℕ) (g :
       let r = width-if (leb w 64 && ltb (lo + hi * 2 ^ 32) (2 ^ w)) w h in
       (tt, rw (r .2) (ltb-true (lo + hi * 2 ^ 32) (2 ^ w) (and-right (leb w 64) (ltb (lo + hi * 2 ^ 32) (2 ^ w)) (r .0))))
   fine (Port i) h = let r = width-if (inputOk t0 i) (portAt p i) h in (g .inputs i (r .0) .0, rw (r .2) (g .inputs i (r .0) .1))
-  fine (Let k) h = (let j = slot-inside lw k h in omega (arith, s .long), s .fits k h)
+  fine (Let k) h =
+      let r = width-if (ltb k 16) (getD lw k unset) h in
+      (let j = slot-inside lw k (r .1) in omega (arith, s .long), rw (r .2) (s .fits k (r .1)))
   fine (Cell m f n) h =
       let r = width-if (memoryOk t0 m f n) (memoryWidthAt p m) h in
       let k = g .cells m f n (r .0) in (k .0, rw (r .2) (cell-fits memory f n y (memoryWidthAt p m) (k .1)))
@@ -169,8 +171,8 @@ module _ (p : List ℕ) (present : ℕ) (values memory lw lv os : List ℕ) (g :
       (record { left = rw (← d) lx; right = rw (← e) ly; first = j; second = k; whole = r .1 }, rw (r .2) (binary-fits o m n x y j k))
   fine Choice h = (tt, chosen-fits (max wx wy) c x y (wider-lt wx (max wx wy) (omega arith) hx) (wider-lt wy (max wx wy) (omega arith) hy))
   fine (Arm n k) h =
-      let r = width-if (leb (getD lw k unset) 64) (max wx wy) h in
-      let j = slot-inside lw k (leb-true (getD lw k unset) 64 (r .0)) in
+      let r = width-if (leb 16 k && leb (getD lw k unset) 64) (max wx wy) h in
+      let j = slot-inside lw k (leb-true (getD lw k unset) 64 (and-right (leb 16 k) (leb (getD lw k unset) 64) (r .0))) in
       (omega (arith, s .long), rw (r .2) (pick-fits (eqb (getD lv k 0) n) x y (2 ^ max wx wy) (wider-lt wx (max wx wy) (omega arith) hx) (wider-lt wy (max wx wy) (omega arith) hy)))
   fine (Keep k w) h = absurd (omega arith)
   fine (Assign q) h = absurd (omega arith)
@@ -234,10 +236,10 @@ module _ (p : List ℕ) (present taken : ℕ) (values memory : List ℕ) (g : Co
   found (Keep k w) [] lw vs lv os d qs q l f = not-broken t is q
   found (Keep k w) (u ∷ ws) lw [] lv os d qs q l f = absurd (f .fit)
   found (Keep k w) (u ∷ ws) lw (v ∷ vs) lv os d qs q l f =
-      let a = test-good t is (ltb k 48 && leb u w && leb w 64) (check ws (set lw k w) d) q in
-      let b = and-left (ltb k 48 && leb u w) (leb w 64) (a .0) in
-      let h = ltb-true k 48 (and-left (ltb k 48) (leb u w) b) in
-      let j = leb-true u w (and-right (ltb k 48) (leb u w) b) in
+      let a = test-good t is (keepable t lw k && leb u w && leb w 64) (check ws (set lw k w) d) q in
+      let b = and-left (keepable t lw k && leb u w) (leb w 64) (a .0) in
+      let h = keepable-there t lw k (and-left (keepable t lw k) (leb u w) b) in
+      let j = leb-true u w (and-right (keepable t lw k) (leb u w) b) in
       record {
         there = omega arith;
         room = λ z. omega arith;

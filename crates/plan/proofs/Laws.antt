@@ -15,7 +15,7 @@ use Rattle.language.specs.Limits.{limits}
 use Rattle.plan.specs.declared.Item.{Item}
 use Rattle.plan.specs.declared.Item.the-variants.{Const, Port, Let, Cell, Range, Copies, Beside, Before, Between, Choice, Arm, Keep, Assign, Write, Bad}
 use Rattle.plan.specs.Layout.{portCount, portAt, memoryWidthAt}
-use Rattle.plan.specs.Sound.{Check, check, broken, Rules, push, test, check1, inputOk, outputOk, memoryOk, slotWidth, unset, waiting, take1, take2}
+use Rattle.plan.specs.Sound.{Check, check, broken, Rules, push, test, check1, inputOk, outputOk, memoryOk, slotWidth, keepable, slots, unset, waiting, take1, take2}
 use Rattle.plan.specs.Steps.{rulesOf, takesOf, actsOf, widthIf, widthOf, pushOver, checkAt, top}
 use Rattle.plan.proofs.Waits.{length-top, top-push, top-drop}
 
@@ -63,7 +63,7 @@ module _ (p : List ℕ) (present taken : ℕ) (ls : List ℕ) (d : ℕ) where
   unfolding inputOk memoryOk slotWidth
   pushes (Const w lo hi) ws h = over0 _ w ws
   pushes (Port i) ws h = over0 (inputOk t i) (portAt p i) ws
-  pushes (Let k) ws h = sym (over-enough 0 (slotWidth t ls k) ws ls d (omega arith))
+  pushes (Let k) ws h = over0 (ltb k (limits .vals)) (slotWidth t ls k) ws
   pushes (Cell m f n) [] h = sym (over-few 1 _ [] ls d (omega arith))
   pushes (Cell m f n) (y ∷ ws) h = over1 (memoryOk t m f n) _ y ws
   pushes (Range i j) [] h = sym (over-few 1 _ [] ls d (omega arith))
@@ -84,7 +84,7 @@ module _ (p : List ℕ) (present taken : ℕ) (ls : List ℕ) (d : ℕ) where
   pushes Choice (y ∷ x ∷ c ∷ ws) h = sym (over-enough 3 (max x y) (y ∷ x ∷ c ∷ ws) ls d (omega arith))
   pushes (Arm n k) [] h = sym (over-few 2 _ [] ls d (omega arith))
   pushes (Arm n k) (y ∷ []) h = sym (over-few 2 _ (y ∷ []) ls d (omega arith))
-  pushes (Arm n k) (y ∷ x ∷ ws) h = over2 (leb (slotWidth t ls k) (limits .expressionWidth)) (max x y) x y ws
+  pushes (Arm n k) (y ∷ x ∷ ws) h = over2 (leb (limits .vals) k && leb (slotWidth t ls k) (limits .expressionWidth)) (max x y) x y ws
   pushes (Keep k w) ws h = absurd (false≢true (sym h))
   pushes (Assign q) ws h = absurd (false≢true (sym h))
   pushes (Write m f n) ws h = absurd (false≢true (sym h))
@@ -139,6 +139,24 @@ pub and-right : (a b : Bool) → (a && b) ≡ true → b ≡ true
 and-right true b h = h
 and-right false b h = absurd (false≢true h)
 
+-- a slot that may be kept: of a `val`, of a `case`, and of either it is there
+module _ (t : Rules) (ls : List ℕ) (k : ℕ) where
+  pub keepable-val : k < limits .vals → keepable t ls k ≡ eqb (slotWidth t ls k) unset
+  unfolding keepable
+  keepable-val h = ap (λ (b : Bool). elim b [ true ↦ eqb (slotWidth t ls k) unset | false ↦ ltb k slots ]) (lt-ltb k (limits .vals) h)
+
+  pub keepable-case : limits .vals ≤ k → keepable t ls k ≡ ltb k slots
+  unfolding keepable
+  keepable-case h = ap (λ (b : Bool). elim b [ true ↦ eqb (slotWidth t ls k) unset | false ↦ ltb k slots ]) (le-ltb k (limits .vals) h)
+
+  pub keepable-there : keepable t ls k ≡ true → k < slots
+  unfolding keepable
+  keepable-there h = go (ltb k (limits .vals)) refl h
+    where
+      go : (b : Bool) → ltb k (limits .vals) ≡ b → elim b [ true ↦ eqb (slotWidth t ls k) unset | false ↦ ltb k slots ] ≡ true → k < slots
+      go true e f = let l = ltb-true k (limits .vals) e in omega arith
+      go false e f = ltb-true k slots f
+
 module _ (s : List ℕ) (n : ℕ) where
   one-few : (f : ℕ → List ℕ → Check) → n < 1 → take1 (top s n) f ≡ broken
   unfolding top
@@ -174,18 +192,18 @@ module _ (t : Rules) (s : List ℕ) (n : ℕ) (ls : List ℕ) (d : ℕ) where
   pub keep-few : (k w : ℕ) → n < 1 → checkAt s 999 ls d ≡ check1 t (Keep k w) (top s n) ls d
   keep-few k w h = check-none s 999 ls d (omega arith) ∙ sym (one-few s n _ h)
 
-  pub keep-yes : (k w x : ℕ) → 1 ≤ n → n ≤ 256 → x ≡ getD (top s n) 0 0 → (ltb k 48 && leb x w && leb w 64) ≡ true
+  pub keep-yes : (k w x : ℕ) → 1 ≤ n → n ≤ 256 → x ≡ getD (top s n) 0 0 → (keepable t ls k && leb x w && leb w 64) ≡ true
       → checkAt s (n - 1) (set ls k w) d ≡ check1 t (Keep k w) (top s n) ls d
   keep-yes k w x h l e b =
       check-some s (n - 1) (set ls k w) d (omega arith)
-      ∙ sym (one-more s n (λ y ws. test (ltb k 48 && leb y w && leb w 64) (check ws (set ls k w) d)) h
-      ∙ ap (λ (c : Bool). test c (check (top s (n - 1)) (set ls k w) d)) (ap (λ (y : ℕ). ltb k 48 && leb y w && leb w 64) (sym e) ∙ b) ∙ test-yes _)
+      ∙ sym (one-more s n (λ y ws. test (keepable t ls k && leb y w && leb w 64) (check ws (set ls k w) d)) h
+      ∙ ap (λ (c : Bool). test c (check (top s (n - 1)) (set ls k w) d)) (ap (λ (y : ℕ). keepable t ls k && leb y w && leb w 64) (sym e) ∙ b) ∙ test-yes _)
 
-  pub keep-no : (k w x : ℕ) → 1 ≤ n → x ≡ getD (top s n) 0 0 → (ltb k 48 && leb x w && leb w 64) ≡ false → checkAt s 999 ls d ≡ check1 t (Keep k w) (top s n) ls d
+  pub keep-no : (k w x : ℕ) → 1 ≤ n → x ≡ getD (top s n) 0 0 → (keepable t ls k && leb x w && leb w 64) ≡ false → checkAt s 999 ls d ≡ check1 t (Keep k w) (top s n) ls d
   keep-no k w x h e b =
       check-none s 999 ls d (omega arith)
-      ∙ sym (one-more s n (λ y ws. test (ltb k 48 && leb y w && leb w 64) (check ws (set ls k w) d)) h
-      ∙ ap (λ (c : Bool). test c (check (top s (n - 1)) (set ls k w) d)) (ap (λ (y : ℕ). ltb k 48 && leb y w && leb w 64) (sym e) ∙ b) ∙ test-no _)
+      ∙ sym (one-more s n (λ y ws. test (keepable t ls k && leb y w && leb w 64) (check ws (set ls k w) d)) h
+      ∙ ap (λ (c : Bool). test c (check (top s (n - 1)) (set ls k w) d)) (ap (λ (y : ℕ). keepable t ls k && leb y w && leb w 64) (sym e) ∙ b) ∙ test-no _)
 
   pub assign-few : (p : ℕ) → n < 1 → checkAt s 999 ls d ≡ check1 t (Assign p) (top s n) ls d
   assign-few p h = check-none s 999 ls d (omega arith) ∙ sym (one-few s n _ h)

@@ -3,4 +3,5 @@ pub mod Laws
 pub mod Lists
 pub mod Parts
 pub mod Turns
+pub mod Vals
 pub mod Waits

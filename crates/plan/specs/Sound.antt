@@ -69,10 +69,14 @@ module _ (t : Rules) where
   unfoldable pub slotWidth : List ℕ → ℕ → ℕ
   slotWidth ls k = getD ls k unset
 
+  -- "`val`s 16 in a rule": a slot of a `val` is kept once, one that a `case` selects by as often as cases come
+  unfoldable pub keepable : List ℕ → ℕ → Bool
+  keepable ls k = elim (ltb k (limits .vals)) [ true ↦ eqb (slotWidth ls k) unset | false ↦ ltb k slots ]
+
   abbrev pub check1 : Item → List ℕ → List ℕ → ℕ → Check
   check1 (Const w lo hi) ws ls d = test (leb w (limits .expressionWidth) && ltb (lo + hi * 2 ^ 32) (2 ^ w)) (push w ws ls d)
   check1 (Port i) ws ls d = test (inputOk i) (push (portAt (t .plan) i) ws ls d)
-  check1 (Let k) ws ls d = push (slotWidth ls k) ws ls d
+  check1 (Let k) ws ls d = test (ltb k (limits .vals)) (push (slotWidth ls k) ws ls d)
   check1 (Cell m f n) ws ls d = take1 ws (λ x ws. test (memoryOk m f n) (push (memoryWidthAt (t .plan) m) ws ls d))
   check1 (Range i j) ws ls d = take1 ws (λ x ws. test (ltb i x && ltb j x) (push (rangeWidth i j) ws ls d))
   check1 (Copies n w) ws ls d = take1 ws (λ x ws. test (eqb x w && leb n (limits .copies)) (push (n * w) ws ls d))
@@ -80,8 +84,8 @@ module _ (t : Rules) where
   check1 (Before u w) ws ls d = take1 ws (λ x ws. test (eqb x w) (push (unaryWidth u w) ws ls d))
   check1 (Between o m n) ws ls d = take2 ws (λ x y ws. test (eqb x m && eqb y n) (push (binaryWidth o m n) ws ls d))
   check1 Choice ws ls d = take3 ws (λ c x y ws. push (max x y) ws ls d)
-  check1 (Arm n k) ws ls d = take2 ws (λ x y ws. test (leb (slotWidth ls k) (limits .expressionWidth)) (push (max x y) ws ls d))
-  check1 (Keep k w) ws ls d = take1 ws (λ x ws. test (ltb k slots && leb x w && leb w (limits .expressionWidth)) (check ws (set ls k w) d))
+  check1 (Arm n k) ws ls d = take2 ws (λ x y ws. test (leb (limits .vals) k && leb (slotWidth ls k) (limits .expressionWidth)) (push (max x y) ws ls d))
+  check1 (Keep k w) ws ls d = take1 ws (λ x ws. test (keepable ls k && leb x w && leb w (limits .expressionWidth)) (check ws (set ls k w) d))
   check1 (Assign p) ws ls d = take1 ws (λ x ws. test (outputOk d p x) (check ws ls (d + 2 ^ p)))
   check1 (Write m f n) ws ls d = take2 ws (λ a x ws. test (memoryOk m f n && leb x (memoryWidthAt (t .plan) m)) (check ws ls d))
   check1 Bad ws ls d = broken

@@ -72,7 +72,7 @@ module _ (t : Rules) (ls : List ℕ) (x y : ℕ) where
   abbrev pub widthOf : Item → ℕ
   widthOf (Const w lo hi) = widthIf (leb w (limits .expressionWidth) && ltb (lo + hi * 2 ^ 32) (2 ^ w)) w
   widthOf (Port i) = widthIf (inputOk t i) (portAt (t .plan) i)
-  widthOf (Let k) = slotWidth t ls k
+  widthOf (Let k) = widthIf (ltb k (limits .vals)) (slotWidth t ls k)
   widthOf (Cell m f n) = widthIf (memoryOk t m f n) (memoryWidthAt (t .plan) m)
   widthOf (Range i j) = widthIf (ltb i y && ltb j y) (rangeWidth i j)
   widthOf (Copies n w) = widthIf (eqb y w && leb n (limits .copies)) (n * w)
@@ -80,7 +80,7 @@ module _ (t : Rules) (ls : List ℕ) (x y : ℕ) where
   widthOf (Before u w) = widthIf (eqb y w) (unaryWidth u w)
   widthOf (Between o m n) = widthIf (eqb x m && eqb y n) (binaryWidth o m n)
   widthOf Choice = max x y
-  widthOf (Arm n k) = widthIf (leb (slotWidth t ls k) (limits .expressionWidth)) (max x y)
+  widthOf (Arm n k) = widthIf (leb (limits .vals) k && leb (slotWidth t ls k) (limits .expressionWidth)) (max x y)
   widthOf (Keep k w) = unset
   widthOf (Assign p) = unset
   widthOf (Write m f n) = unset

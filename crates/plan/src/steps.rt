@@ -15,6 +15,7 @@ use crate::layout::length_at;
 use crate::layout::memory_width;
 use crate::layout::place;
 use crate::layout::present_at;
+use crate::widths::keepable;
 use crate::widths::memory_ok;
 use crate::widths::output_ok;
 use crate::widths::waiting;
@@ -53,7 +54,7 @@ fn keep(ls: &mut [u32], n: usize, k: u32, w: u32, x: u32) -> usize
     if n < 1 {
         return 999;
     }
-    if (k < 48) & (x <= w) & (w <= 64) {
+    if keepable(ls, k) & (x <= w) & (w <= 64) {
         let q = place(k);
         ls[q] = w;
         return n - 1;

@@ -6,7 +6,7 @@ ghost use Prim.Native.Nat.{_+_, _*_, _^_, _≤_, _<_, max};
 ghost use lib.Dec.{eqb, leb, ltb};
 ghost use lib.ListN.{length, getD};
 ghost use Rattle.language.specs.Values.{binaryWidth, rangeWidth};
-ghost use Rattle.plan.specs.Sound.{inputOk, outputOk, memoryOk, slotWidth};
+ghost use Rattle.plan.specs.Sound.{inputOk, outputOk, memoryOk, slotWidth, keepable};
 ghost use Rattle.plan.specs.Steps.{rulesOf, widthIf, widthOf, top, Wide};
 use crate::Item;
 use crate::layout::bit;
@@ -19,6 +19,7 @@ use crate::layout::port_at;
 use crate::layout::port_count;
 use crate::layout::within;
 use language::Binary;
+use language::Plan;
 use value::binary_width;
 use value::unary_width;
 
@@ -95,6 +96,31 @@ fn slot_width(ls: &[u32], k: u32) -> u32
     if q < ls.len() { ls[q] } else { 99 }
 }
 
+// The width of a `val`'s slot.
+fn let_width(ls: &[u32], k: u32) -> u32
+    ensures { λ r. ⌜ r ≡ widthIf (ltb k 16) (slotWidth (rulesOf [] 0 0) (now (ls .entry)) k) ⌝ }
+{
+    width_if(k < Plan::VALS, slot_width(ls, k))
+}
+
+// A slot that a `case` selects by, and that was kept.
+fn arm_ok(ls: &[u32], k: u32) -> bool
+    ensures { λ r. ⌜ r ≡ (leb 16 k && leb (slotWidth (rulesOf [] 0 0) (now (ls .entry)) k) 64) ⌝ }
+{
+    (k >= Plan::VALS) & (slot_width(ls, k) <= 64)
+}
+
+// A slot that may be kept: that of a `val` once.
+pub fn keepable(ls: &[u32], k: u32) -> bool
+    ensures { λ r. ⌜ r ≡ keepable (rulesOf [] 0 0) (now (ls .entry)) k ⌝ }
+{
+    if k < Plan::VALS {
+        slot_width(ls, k) == 99
+    } else {
+        k < 48
+    }
+}
+
 fn range_width(i: u32, j: u32, y: u32) -> u32
     requires { ⌜ y ≤ 64 ⌝ }
     ensures { λ r. ⌜ r ≡ widthIf (ltb i y && ltb j y) (rangeWidth i j) ⌝ }
@@ -156,7 +182,7 @@ pub fn width_of(i: Item, plan: &[u32], present: u32, ls: &[u32], ws: &[u32], n: 
     match i {
         Item::Const(w, lo, hi) => const_width(w, lo, hi),
         Item::Port(k) => width_if(input_ok(plan, present, k), port_at(plan, k)),
-        Item::Let(k) => slot_width(ls, k),
+        Item::Let(k) => let_width(ls, k),
         Item::Cell(m, f, k) => width_if(memory_ok(plan, m, f, k), memory_width(plan, m)),
         Item::Range(a, b) => range_width(a, b, waiting(ws, n, 0)),
         Item::Copies(k, w) => copies_width(k, w, waiting(ws, n, 0)),
@@ -164,7 +190,7 @@ pub fn width_of(i: Item, plan: &[u32], present: u32, ls: &[u32], ws: &[u32], n: 
         Item::Before(u, w) => width_if(waiting(ws, n, 0) == w, unary_width(u, w)),
         Item::Between(o, a, b) => between_width(o, a, b, waiting(ws, n, 1), waiting(ws, n, 0)),
         Item::Choice => widest(ws, n),
-        Item::Arm(_, k) => width_if(slot_width(ls, k) <= 64, widest(ws, n)),
+        Item::Arm(_, k) => width_if(arm_ok(ls, k), widest(ws, n)),
         Item::Keep(_, _) => 99,
         Item::Assign(_) => 99,
         Item::Write(_, _, _) => 99,

@@ -26,8 +26,10 @@ use Rattle.language.specs.Sizes.{Setting, Extent, wide, used, Let, letNamed, br
 use Rattle.language.specs.Meaning.{portAt, cellsOf, cellsBefore}
 use Rattle.plan.specs.declared.Item.{Item}
 use Rattle.plan.specs.declared.Item.the-variants.{Const, Port, Let as Kept, Cell, Range, Copies, Beside, Before, Between, Choice, Arm, Keep}
-use Rattle.plan.specs.Sound.{Rules, Check, check, push, test, inputOk, memoryOk, slotWidth, check1, checkStep, checkAll}
+use Rattle.plan.specs.Sound.{Rules, Check, check, push, test, inputOk, memoryOk, slotWidth, keepable, unset, check1, checkStep, checkAll}
 use Rattle.plan.specs.Layout as Layout
+use Rattle.plan.proofs.Laws.{keepable-val, keepable-case}
+use Rattle.plan.proofs.Lists.{getD-any}
 use Rattle.placed.specs.Placed.{Every}
 use Rattle.placed.proofs.Every.{every-map, every-append}
 use Rattle.planned.specs.PlanOf.{Slot, extents, widthOf, wideOf, constant, readItem, memoryAt, code, planOf}
@@ -106,12 +108,6 @@ range-small i j w h k = omega arith
 
 -- ## The checker's steps
 
--- default of a list that is long enough
-get-default : (l : List ℕ) (k a b : ℕ) → k < length l → getD l k a ≡ getD l k b
-get-default [] k a b h = absurd (omega arith)
-get-default (x ∷ l) zero a b h = refl
-get-default (x ∷ l) (suc k) a b h = get-default l k a b (omega arith)
-
 push-ok : (w : ℕ) (ws ls : List ℕ) (m : ℕ) → w ≤ 64 → length ws < 256 → push w ws ls m ≡ check (w ∷ ws) ls m
 unfolding push
 push-ok w ws ls m h k = rw (push, le-leb w 64 h, lt-ltb (length ws) 256 k)
@@ -160,9 +156,9 @@ module _ (t : Rules) where
       port-item : (i w : ℕ) → inputOk t i ≡ true → Layout.portAt (t .plan) i ≡ w → w ≤ 64 → check1 t (Port i) ws ls m ≡ check (w ∷ ws) ls m
       port-item i w h e k = test-ok (inputOk t i) _ h ∙ rw e (push-ok w ws ls m k room)
 
-      let-item : (k w : ℕ) → k < length ls → getD ls k 0 ≡ w → w ≤ 64 → check1 t (Kept k) ws ls m ≡ check (w ∷ ws) ls m
+      let-item : (k w : ℕ) → k < 16 → k < length ls → getD ls k 0 ≡ w → w ≤ 64 → check1 t (Kept k) ws ls m ≡ check (w ∷ ws) ls m
       unfolding slotWidth
-      let-item k w l e h = rw (slotWidth, get-default ls k 99 0 l, e) (push-ok w ws ls m h room)
+      let-item k w j l e h = test-ok (ltb k 16) _ (lt-ltb k 16 j) ∙ rw (slotWidth, getD-any ls k 99 0 l, e) (push-ok w ws ls m h room)
 
       cell-item : (k f n x w : ℕ) → memoryOk t k f n ≡ true → Layout.memoryWidthAt (t .plan) k ≡ w → w ≤ 64 → check1 t (Cell k f n) (x ∷ ws) ls m ≡ check (w ∷ ws) ls m
       cell-item k f n x w h e l = test-ok (memoryOk t k f n) _ h ∙ rw e (push-ok w ws ls m l room)
@@ -185,12 +181,21 @@ module _ (t : Rules) where
       choice-item : (c x y : ℕ) → x ≤ 64 → y ≤ 64 → check1 t Choice (y ∷ x ∷ c ∷ ws) ls m ≡ check (max x y ∷ ws) ls m
       choice-item c x y h k = push-ok (max x y) ws ls m (omega arith) room
 
-      arm-item : (n k x y : ℕ) → k < length ls → getD ls k 0 ≤ 64 → x ≤ 64 → y ≤ 64 → check1 t (Arm n k) (y ∷ x ∷ ws) ls m ≡ check (max x y ∷ ws) ls m
+      arm-item : (n k x y : ℕ) → 16 ≤ k → k < length ls → getD ls k 0 ≤ 64 → x ≤ 64 → y ≤ 64 → check1 t (Arm n k) (y ∷ x ∷ ws) ls m ≡ check (max x y ∷ ws) ls m
       unfolding slotWidth
-      arm-item n k x y l g h j = test-ok (leb (slotWidth t ls k) 64) _ (rw (slotWidth, get-default ls k 99 0 l) (le-leb _ 64 g)) ∙ push-ok (max x y) ws ls m (omega arith) room
+      arm-item n k x y c l g h j =
+          test-ok (leb 16 k && leb (slotWidth t ls k) 64) _ (true-both _ _ (le-leb 16 k c) (rw (slotWidth, getD-any ls k 99 0 l) (le-leb _ 64 g))) ∙ push-ok (max x y) ws ls m (omega arith) room
 
-    pub keep-item : (k x w : ℕ) (ws ls : List ℕ) → k < 48 → x ≤ w → w ≤ 64 → check1 t (Keep k w) (x ∷ ws) ls m ≡ check ws (set ls k w) m
-    keep-item k x w ws ls h j l = test-ok (ltb k 48 && leb x w && leb w 64) _ (true-both _ _ (true-both _ _ (lt-ltb k 48 h) (le-leb x w j)) (le-leb w 64 l))
+    keep-item : (k x w : ℕ) (ws ls : List ℕ) → keepable t ls k ≡ true → x ≤ w → w ≤ 64 → check1 t (Keep k w) (x ∷ ws) ls m ≡ check ws (set ls k w) m
+    keep-item k x w ws ls h j l = test-ok (keepable t ls k && leb x w && leb w 64) _ (true-both _ _ (true-both _ _ h (le-leb x w j)) (le-leb w 64 l))
+
+    -- a `val` goes into a slot that nothing was kept in
+    pub val-item : (k x w : ℕ) (ws ls : List ℕ) → k < 16 → k < length ls → getD ls k 0 ≡ unset → x ≤ w → w ≤ 64 → check1 t (Keep k w) (x ∷ ws) ls m ≡ check ws (set ls k w) m
+    unfolding slotWidth
+    val-item k x w ws ls h l e j = keep-item k x w ws ls (keepable-val t ls k h ∙ eq-eqb (getD ls k unset) unset (getD-any ls k unset 0 l ∙ e)) j
+
+    case-item : (k x w : ℕ) (ws ls : List ℕ) → 16 ≤ k → k < 48 → x ≤ w → w ≤ 64 → check1 t (Keep k w) (x ∷ ws) ls m ≡ check ws (set ls k w) m
+    case-item k x w ws ls h l j = keep-item k x w ws ls (keepable-case t ls k h ∙ lt-ltb k 48 l) j
 
 -- ## What an expression needs
 
@@ -272,7 +277,7 @@ module _ (s : Setting) (present taken m : ℕ) (ms : List (List ℕ)) where
     abbrev pub SelectsWidth : Kind → ℕ → List ℕ → Type 0
     SelectsWidth whole d ls = Unit {0}
     SelectsWidth parts d ls = Unit {0}
-    SelectsWidth arms d ls = getD ls (15 + d) 0 ≤ 64
+    SelectsWidth arms d ls = (1 ≤ d) × (getD ls (15 + d) 0 ≤ 64)
 
     abbrev pub NotParts : Kind → Type 0
     NotParts whole = Unit {0}
@@ -333,7 +338,7 @@ module _ (s : Setting) (present taken m : ℕ) (ms : List (List ℕ)) where
               → check1 t (elim x [ some x ↦ Kept (x .number) | none ↦ Port (portAt s n) ]) ws ls m
               ≡ check (widthOf (elim (elim x as (λ _. Option Extent) [ some y ↦ some (y .holds) | none ↦ none ]) [ some x ↦ used x | none ↦ wide (portWidth (s .actor) (s .widths) n) ]) ∷ ws) ls m
           go none e = let q = r e in port-item t m ws ls room (portAt s n) _ (q .0) (q .1) (let z = ports-small n in omega arith)
-          go (some x) e = let q = named-holds (HoldsWidth ls) lets n x h e in let j = q .0 in rw (q .1) (let-item t m ws ls room (x .number) _ (omega arith) refl (q .2))
+          go (some x) e = let q = named-holds (HoldsWidth ls) lets n x h e in let j = q .0 in rw (q .1) (let-item t m ws ls room (x .number) _ j (omega arith) refl (q .2))
 
       select-checks : {is : List Item} {out ws ls : List ℕ} (d w n : ℕ) → Sound-at d (suc n) ls → w ≤ 64
           → ((new : List ℕ) → Sound-at (suc d) n new → getD new (15 + suc d) 0 ≤ 64 → C is (16 + suc d) out ws new) → C (Keep (16 + d) w ∷ is) (16 + d) out (w ∷ ws) ls
@@ -344,9 +349,9 @@ module _ (s : Setting) (present taken m : ℕ) (ms : List (List ℕ)) where
           let c = kept-set (16 + d) (16 + d) w ls (omega arith) in
           let e : 15 + suc d ≡ 16 + d = omega arith in
           let r = f (set ls (16 + d) w) (record { long = length-set ls (16 + d) w ∙ y; room = omega arith; held = widths-kept (16 + d) lets (omega arith) c (h .held) }) (rw (e, getD-set-same ls (16 + d) w 0 (omega arith)) k) in
-          record { after = r .after; checks = ap (checkAll t is) (keep-item t m (16 + d) w w ws ls (omega arith) (omega arith) k) ∙ r .checks; kept = kept-trans (omega arith) (r .kept) c }
+          record { after = r .after; checks = ap (checkAll t is) (case-item t m (16 + d) w w ws ls (omega arith) (omega arith) (omega arith) k) ∙ r .checks; kept = kept-trans (omega arith) (r .kept) c }
 
-      arms-selects : (x : Kind) (d : ℕ) (ls : List ℕ) → IsArms x → SelectsWidth x d ls → getD ls (15 + d) 0 ≤ 64
+      arms-selects : (x : Kind) (d : ℕ) (ls : List ℕ) → IsArms x → SelectsWidth x d ls → (1 ≤ d) × (getD ls (15 + d) 0 ≤ 64)
       arms-selects whole d ls a z = absurd a
       arms-selects parts d ls a z = absurd a
       arms-selects arms d ls a z = z
@@ -459,7 +464,7 @@ module _ (s : Setting) (present taken m : ℕ) (ms : List (List ℕ)) where
           wide-as t m (width-of (at (select p e a)) _ (q .3))
           (both t m (code-checks whole d e ws ls (f .1) tt (less-sound l (le-max-left _ _)) (q .0) v (u .0) (omega arith))
           (λ new k. select-checks d (wd e) (nest a) (kept-sound (less-sound l (le-max-right (nest e) _)) k) v
-          (λ newer j y. code-checks arms (suc d) a ws newer (f .2) y j (q .1) (small-extent arms a (f .2) tt (small-lets ls lets (l .held)) (q .1)) (u .1) (omega arith))))
+          (λ newer j y. code-checks arms (suc d) a ws newer (f .2) (omega arith, y) j (q .1) (small-extent arms a (f .2) tt (small-lets ls lets (l .held)) (q .1)) (u .1) (omega arith))))
       code-checks x d (arm n e r) ws ls f z l h w i b =
           let q = two-wide (at e) (at r) _ h in
           let u = every-append _ (items e) (items r) i in
@@ -469,6 +474,6 @@ module _ (s : Setting) (present taken m : ℕ) (ms : List (List ℕ)) where
           let o = some-words e in
           wide-as t m (width-of (at (arm n e r)) _ (q .3))
           (both t m (code-checks whole d e ws ls (f .1) tt (less-sound l (le-max-left _ _)) (q .0) v (u .0) (omega arith))
-          (λ new k. both t m (code-checks arms d r _ new (f .2) (rw (k .same (15 + d) (at-fifteen d)) c) (kept-sound (less-sound l (le-max-right _ _)) k) (q .1) y (u .1) (omega arith))
-          (λ newer j. one t m (arm-item t m ws newer (roomy (arm n e r) (length ws) b) (n .value) (15 + d) (wd e) (wd r) (slot-there d newer l (j .long ∙ k .long)) (rw (j .same (15 + d) (at-fifteen d), k .same (15 + d) (at-fifteen d)) c) v y))))
+          (λ new k. both t m (code-checks arms d r _ new (f .2) (c .0, rw (k .same (15 + d) (at-fifteen d)) (c .1)) (kept-sound (less-sound l (le-max-right _ _)) k) (q .1) y (u .1) (omega arith))
+          (λ newer j. one t m (arm-item t m ws newer (roomy (arm n e r) (length ws) b) (n .value) (15 + d) (wd e) (wd r) (let g = c .0 in omega arith) (slot-there d newer l (j .long ∙ k .long)) (rw (j .same (15 + d) (at-fifteen d), k .same (15 + d) (at-fifteen d)) (c .1)) v y))))
       code-checks x d (default p e) ws ls f z l h w i b = code-checks whole d e ws ls (f .1) tt l h w i (omega arith)

@@ -1,4 +1,4 @@
--- The widths of a plan's ports and memories are the resolved ones, in their order.
+-- The widths of a plan's ports and memories are the setting's, in their order.
 use Prim.Native.Nat.{ℕ, zero, suc, _+_, _<_}
 use mathlib.Core.Path.{_≡_, refl, sym, ap, _∙_, subst}
 use mathlib.Core.List.{List, [], _∷_, _++_}

@@ -34,7 +34,7 @@ use Rattle.planned.proofs.Firing.{Stretch, stretch, group-rule}
 use Rattle.planned.proofs.Rules.{decode-all}
 use Rattle.planned.proofs.Facts.{RuleFacts, name-facts, limit-facts, signature-short, ports-known, outputs-known, port-small, memory-small, rule-facts, rule-names, rule-formed, rule-words, rule-bodies, rule-presence, groups-separate}
 use Rattle.planned.proofs.Checks.{Readable}
-use Rattle.planned.proofs.SoundRules.{maskAfter, MoreStatement, body-ends}
+use Rattle.planned.proofs.SoundRules.{maskAfter, MoreStatement, unkept-start, body-ends}
 use Rattle.planned.proofs.SoundNames.{memory-there, readable, writable, Free, assignable, mask-free, NumberOk, numbers-ok, Present, Sure, more-statement}
 use Rattle.planned.proofs.SoundSections.{sections-sound}
 
@@ -163,7 +163,7 @@ module _ (ws : List Word) (s : Setting) (ok : Accepted ws s) (gr : Grammatical w
       (every-both _ _ (assignedIn r) (h .facts .outputs) (every-both _ _ (assignedIn r) (h .bound) (spelled-every _ (assignedIn r) n))) in
       let a = assignable s (maskOf s true (r .list)) taken ms [] 0 (assignedIn r) (λ m x y. bit-zero (portAt s m)) (h .facts .once) known w in
       let b = body-ends s (maskOf s true (r .list)) taken ms (port-small ws s ok gr) (memory-small ws s ok gr) (λ m q. memory-there s (maskOf s true (r .list)) taken 0 ms m q) 0 0 (r .body) (replicate 48 99) (h .facts .fine .0) (h .more taken) a
-      (let k = h .facts .fine .1 in omega arith) (length-replicate {A = ℕ} 48 99) in (
+      (let k = h .facts .fine .1 in omega arith) (length-replicate {A = ℕ} 48 99) unkept-start in (
         rw (ruleCheck, e, c, decode-all (bodyCode s 0 (r .body)), b .checks) refl,
         λ m x y. mask-free s (maskOf s true (r .list)) taken ms 0 (assignedIn r) m a known x y (bit-zero (portAt s m)),
       )

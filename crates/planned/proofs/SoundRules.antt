@@ -6,7 +6,7 @@ use mathlib.Core.Bool.{Bool, true, false}
 use mathlib.Core.Option.{Option, none, some}
 use native.Mathlib.Omega.{arith}
 use native.Mathlib.Nat.{lt-of-lt-of-le}
-use lib.ListN.{length, getD, set, length-set}
+use lib.ListN.{length, getD, set, length-set, replicate, getD-replicate}
 use lib.Seq.{getD-set-same, getD-set-other}
 use lib.Dec.{leb, ltb, eqb}
 use borrow.Author.Tests.{eq-eqb, lt-ltb, le-leb}
@@ -23,7 +23,7 @@ use Rattle.language.specs.Presence.{outputOf, outputsOf}
 use Rattle.plan.specs.declared.Item.{Item}
 use Rattle.plan.specs.declared.Item.the-variants.{Keep, Assign, Write}
 use Rattle.plan.specs.Layout as Layout
-use Rattle.plan.specs.Sound.{Rules, check, outputOk, test, check1, checkStep, checkAll}
+use Rattle.plan.specs.Sound.{Rules, check, slots, unset, outputOk, test, check1, checkStep, checkAll}
 use Rattle.placed.specs.Placed.{Every}
 use Rattle.placed.proofs.Every.{every-map}
 use Rattle.planned.specs.PlanOf.{Slot, extents, widthOf, memoryAt, code, assignmentCode, letsFrom, valsCode, bodyCode, planOf}
@@ -33,7 +33,7 @@ use Rattle.planned.proofs.Extents.{IsWide, wide-at, width-of, two-wide,
 use Rattle.planned.proofs.Runs.{Kept-below, kept-refl, kept-trans}
 use Rattle.planned.proofs.Rules.{Fine, FineAssignment, FineVals, FineStatement, valsIn, lets-extents, val-inner}
 use Rattle.planned.proofs.Outputs.{cons-false}
-use Rattle.planned.proofs.Checks.{check-append, Checks, keep-item, HoldsWidth, HoldWidths, widths-kept, SmallLets, small-lets, Readable, Celled, ItemOk, code-checks, small-extent}
+use Rattle.planned.proofs.Checks.{check-append, Checks, val-item, HoldsWidth, HoldWidths, widths-kept, SmallLets, small-lets, Readable, Celled, ItemOk, code-checks, small-extent}
 
 -- what the `let`s in force are called
 unfoldable pub calledOf : List (Let Slot) → List (List ℕ)
@@ -67,6 +67,21 @@ mask-append : (s : Setting) (m : ℕ) (l r : List Name) → maskAfter s m (l ++ 
 unfolding maskAfter
 mask-append s m [] r = refl
 mask-append s m (n ∷ l) r = mask-append s (m + 2 ^ portAt s (n .spelled)) l r
+
+-- ## The slots of `val`s to come: those from k on hold nothing
+
+abbrev pub Unkept : ℕ → List ℕ → Type 0
+Unkept k ls = (j : ℕ) → k ≤ j → j < 16 → getD ls j 0 ≡ unset
+
+unkept-kept : {k : ℕ} {new ls : List ℕ} → Kept-below 16 new ls → Unkept k ls → Unkept k new
+unkept-kept c g j a b = c .same j b ∙ g j a b
+
+unkept-next : (k w : ℕ) (ls : List ℕ) → Unkept k ls → Unkept (suc k) (set ls k w)
+unkept-next k w ls g j a b = getD-set-other ls k j w 0 (omega arith) ∙ g j (omega arith) b
+
+-- a rule starts with none kept
+pub unkept-start : Unkept 0 (replicate slots unset)
+unkept-start j a b = getD-replicate slots j unset 0 (omega arith)
 
 module _ (s : Setting) (present taken : ℕ) (ms : List (List ℕ)) where
   abbrev t : Rules
@@ -121,12 +136,11 @@ module _ (s : Setting) (present taken : ℕ) (ms : List (List ℕ)) where
   unfolding checkAll
   ends-nothing n m ls = record { after = ls; checks = refl; kept = kept-refl n ls }
 
-  ends-both : {is js : List Item} {n j k m : ℕ} {ls : List ℕ} → Ends is n j m ls → ((new : List ℕ) → Kept-below n new ls → Ends js n k j new) → Ends (is ++ js) n k m ls
-  ends-both {is} {js} {n} {j} {k} {m} {ls} d f =
-      let e = f (d .after) (d .kept) in
+  ends-both : {is js : List Item} {n j k m : ℕ} {ls : List ℕ} (d : Ends is n j m ls) → Ends js n k j (d .after) → Ends (is ++ js) n k m ls
+  ends-both {is} {js} {n} {j} {k} {m} {ls} d e =
       record { after = e .after; checks = check-append t is js (check [] ls m) ∙ ap (checkAll t js) (d .checks) ∙ e .checks; kept = kept-trans (omega arith) (e .kept) (d .kept) }
 
-  ends-weaker : {is : List Item} {n k m : ℕ} {ls : List ℕ} → Ends is n k m ls → Ends is 0 k m ls
+  abbrev ends-weaker : {is : List Item} {n k m : ℕ} {ls : List ℕ} → Ends is n k m ls → Ends is 0 k m ls
   ends-weaker d = record { after = d .after; checks = d .checks; kept = record { long = d .kept .long; same = λ k h. absurd (omega arith) } }
 
   module _ (ports-small : (n : List ℕ) → portWidth (s .actor) (s .widths) n ≤ 32) (memories-small : (n : List ℕ) → memoryWidth (s .actor) (s .widths) n ≤ 32) (memories-there : (n : List ℕ) → among ms n ≡ true → Celled s present taken 0 ms n) where
@@ -199,8 +213,9 @@ module _ (s : Setting) (present taken : ℕ) (ms : List (List ℕ)) where
     assignments-end m lets [] ls f x a l h = ends-nothing 16 m ls
     assignments-end m lets (y ∷ xs) ls f x a l h =
         let q = assignable-append m (outputOf y) (each outputOf xs) a in
+        let d = assignment-ends m lets y ls (f .0) (x .0) (q .0) l h in
         rw (mask-append s m (outputOf y) (each outputOf xs))
-        (ends-both (assignment-ends m lets y ls (f .0) (x .0) (q .0) l h) (λ new k. assignments-end _ lets xs new (f .1) (x .1) (q .1) (k .long ∙ l) (widths-kept 16 lets (omega arith) k h)))
+        (ends-both d (assignments-end _ lets xs (d .after) (f .1) (x .1) (q .1) (d .kept .long ∙ l) (widths-kept 16 lets (omega arith) (d .kept) h)))
 
     -- ## `val`s
 
@@ -237,17 +252,18 @@ module _ (s : Setting) (present taken : ℕ) (ms : List (List ℕ)) where
         every-map (λ l. HoldsTo k ls (l .holds)) (λ l. HoldsTo (suc k) (set new k w) (l .holds))
         (λ l q. let j = q .0 in let e : getD (set new k w) (l .holds .number) 0 ≡ getD ls (l .holds .number) 0 = getD-set-other new k (l .holds .number) w 0 (omega arith) ∙ c .same (l .holds .number) (omega arith) in rw e (omega arith, q .1, q .2)) lets p
 
-    record Keeps (is : List Item) (lets : List (Let Slot)) (m : ℕ) (ls : List ℕ) : Type 0 where
+    record Keeps (is : List Item) (lets : List (Let Slot)) (n m : ℕ) (ls : List ℕ) : Type 0 where
       after : List ℕ
       checks : checkAll t is (check [] ls m) ≡ check [] after m
       long : length after ≡ length ls
       held : HoldWidths after lets
+      unkept : Unkept n after
 
-    vals-keep : (m k : ℕ) (lets : List (Let Slot)) (vs : List Val) (ls : List ℕ) → FineVals s ms (extents lets) vs → MoreVals (calledOf lets) vs → k + length vs ≤ 16 → length ls ≡ 48 → HoldTo k ls lets
-        → Keeps (valsCode s k lets vs) (letsFrom s k lets vs) m ls
+    vals-keep : (m k : ℕ) (lets : List (Let Slot)) (vs : List Val) (ls : List ℕ) → FineVals s ms (extents lets) vs → MoreVals (calledOf lets) vs → k + length vs ≤ 16 → length ls ≡ 48 → HoldTo k ls lets → Unkept k ls
+        → Keeps (valsCode s k lets vs) (letsFrom s k lets vs) (k + length vs) m ls
     unfolding valsCode letsFrom checkAll checkStep extents calledOf
-    vals-keep m k lets [] ls f x n l p = record { after = ls; checks = refl; long = refl; held = hold-to k ls lets (omega arith) p }
-    vals-keep m k lets (v ∷ vs) ls f x n l p =
+    vals-keep m k lets [] ls f x n l p g = record { after = ls; checks = refl; long = refl; held = hold-to k ls lets (omega arith) p; unkept = λ j a b. g j (omega arith) b }
+    vals-keep m k lets (v ∷ vs) ls f x n l p g =
         let h = hold-to k ls lets (omega arith) p in
         let i = val-inner s (extents lets) v (f .1) in
         let r = expression-checks m lets (v .value) [] ls (f .0) (x .0) i l h (omega arith) in
@@ -256,14 +272,15 @@ module _ (s : Setting) (present taken : ℕ) (ms : List (List ℕ)) where
         let c : Let Slot = record { called = v .called .spelled; holds = record { number = k; holds = valExtent s (extents lets) v } } in
         let y : getD (set (r .after) k w) k 0 ≡ w = getD-set-same (r .after) k w 0 (rw (r .kept .long) (omega arith)) in
         let q = vals-keep m (suc k) (c ∷ lets) vs (set (r .after) k w) (f .2) (x .1) (omega arith) (length-set (r .after) k w ∙ r .kept .long ∙ l)
-        (rw y (omega arith, wide-at (valExtent s (extents lets) v) (f .1), z .1), hold-next k w (r .after) ls lets (omega arith) (r .kept) p) in
+        (rw y (omega arith, wide-at (valExtent s (extents lets) v) (f .1), z .1), hold-next k w (r .after) ls lets (omega arith) (r .kept) p) (unkept-next k w (r .after) (unkept-kept (r .kept) g)) in
         record {
           after = q .after;
           checks = check-append t (code s lets 0 (v .value)) (Keep k w ∷ valsCode s (suc k) (c ∷ lets) vs) (check [] ls m)
               ∙ ap (checkAll t (Keep k w ∷ valsCode s (suc k) (c ∷ lets) vs)) (r .checks)
-              ∙ ap (checkAll t (valsCode s (suc k) (c ∷ lets) vs)) (keep-item t m k (widthOf (extent s (extents lets) (v .value))) w [] (r .after) (omega arith) (z .0) (z .1)) ∙ q .checks;
+              ∙ ap (checkAll t (valsCode s (suc k) (c ∷ lets) vs)) (val-item t m k (widthOf (extent s (extents lets) (v .value))) w [] (r .after) (omega arith) (rw (r .kept .long) (omega arith)) (unkept-kept (r .kept) g k (omega arith) (omega arith)) (z .0) (z .1)) ∙ q .checks;
           long = q .long ∙ length-set (r .after) k w ∙ r .kept .long;
           held = q .held;
+          unkept = λ j a b. q .unkept j (omega arith) b;
         }
 
     -- ## A rule's body
@@ -281,29 +298,39 @@ module _ (s : Setting) (present taken : ℕ) (ms : List (List ℕ)) where
     more-assignment names others (assign n e) w h = more-names names others e w h
     more-assignment names others (write n a e) w h = (h .0, more-names names others a w (h .1), more-names names others e w (h .2))
 
-    scoped-ends : (m k : ℕ) (vs : List Val) (xs : List Assignment) (ls : List ℕ) → FineStatement s ms (scoped vs xs) → MoreStatement (scoped vs xs) → Assignable m (each outputOf xs) → k + length vs ≤ 16 → length ls ≡ 48
-        → Ends (valsCode s k [] vs ++ each (assignmentCode s (letsFrom s k [] vs)) xs) 0 (maskAfter s m (each outputOf xs)) m ls
+    -- a statement's items, after which the slots of `val`s from n on hold nothing
+    record Leaves (is : List Item) (n k m : ℕ) (ls : List ℕ) : Type 0 where
+      ends : Ends is 0 k m ls
+      unkept : Unkept n (ends .after)
+
+    scoped-ends : (m k : ℕ) (vs : List Val) (xs : List Assignment) (ls : List ℕ) → FineStatement s ms (scoped vs xs) → MoreStatement (scoped vs xs) → Assignable m (each outputOf xs) → k + length vs ≤ 16 → length ls ≡ 48 → Unkept k ls
+        → Leaves (valsCode s k [] vs ++ each (assignmentCode s (letsFrom s k [] vs)) xs) (k + length vs) (maskAfter s m (each outputOf xs)) m ls
     unfolding extents calledOf
-    scoped-ends m k vs xs ls f x a n l =
-        let r = vals-keep m k [] vs ls (f .0) (x .0) n l tt in
+    scoped-ends m k vs xs ls f x a n l g =
+        let r = vals-keep m k [] vs ls (f .0) (x .0) n l tt g in
         let q = assignments-end m (letsFrom s k [] vs) xs (r .after) (rw (lets-extents s k [] vs) (f .1))
         (every-map _ _ (λ y h. more-assignment _ _ y (λ b e. lets-called s k [] vs b e .0) h) xs (x .1)) a (r .long ∙ l) (r .held) in
         record {
-          after = q .after;
-          checks = check-append t (valsCode s k [] vs) (each (assignmentCode s (letsFrom s k [] vs)) xs) (check [] ls m)
-              ∙ ap (checkAll t (each (assignmentCode s (letsFrom s k [] vs)) xs)) (r .checks) ∙ q .checks;
-          kept = record { long = q .kept .long ∙ r .long; same = λ k h. absurd (omega arith) };
+          ends = record {
+            after = q .after;
+            checks = check-append t (valsCode s k [] vs) (each (assignmentCode s (letsFrom s k [] vs)) xs) (check [] ls m)
+                ∙ ap (checkAll t (each (assignmentCode s (letsFrom s k [] vs)) xs)) (r .checks) ∙ q .checks;
+            kept = record { long = q .kept .long ∙ r .long; same = λ k h. absurd (omega arith) };
+          };
+          unkept = unkept-kept (q .kept) (r .unkept);
         }
 
-    pub body-ends : (m k : ℕ) (l : List Statement) (ls : List ℕ) → Every (FineStatement s ms) l → Every MoreStatement l → Assignable m (each outputsOf l) → k + valsIn l ≤ 16 → length ls ≡ 48
+    pub body-ends : (m k : ℕ) (l : List Statement) (ls : List ℕ) → Every (FineStatement s ms) l → Every MoreStatement l → Assignable m (each outputsOf l) → k + valsIn l ≤ 16 → length ls ≡ 48 → Unkept k ls
         → Ends (bodyCode s k l) 0 (maskAfter s m (each outputsOf l)) m ls
     unfolding bodyCode each outputsOf valsIn maskAfter extents calledOf
-    body-ends m k [] ls f x a n h = ends-nothing 0 m ls
-    body-ends m k (alone y ∷ l) ls f x a n h =
+    body-ends m k [] ls f x a n h g = ends-nothing 0 m ls
+    body-ends m k (alone y ∷ l) ls f x a n h g =
         let q = assignable-append m (outputOf y) (each outputsOf l) a in
+        let d = assignment-ends m [] y ls (f .0) (x .0) (q .0) h tt in
         rw (mask-append s m (outputOf y) (each outputsOf l))
-        (ends-both (ends-weaker (assignment-ends m [] y ls (f .0) (x .0) (q .0) h tt)) (λ new c. body-ends _ k l new (f .1) (x .1) (q .1) n (c .long ∙ h)))
-    body-ends m k (scoped vs xs ∷ l) ls f x a n h =
+        (ends-both (ends-weaker d) (body-ends _ k l (d .after) (f .1) (x .1) (q .1) n (d .kept .long ∙ h) (unkept-kept (d .kept) g)))
+    body-ends m k (scoped vs xs ∷ l) ls f x a n h g =
         let q = assignable-append m (each outputOf xs) (each outputsOf l) a in
+        let d = scoped-ends m k vs xs ls (f .0) (x .0) (q .0) (omega arith) h g in
         rw (← (append-assoc (valsCode s k [] vs) (each (assignmentCode s (letsFrom s k [] vs)) xs) (bodyCode s (k + length vs) l)), mask-append s m (each outputOf xs) (each outputsOf l))
-        (ends-both (scoped-ends m k vs xs ls (f .0) (x .0) (q .0) (omega arith) h) (λ new c. body-ends _ (k + length vs) l new (f .1) (x .1) (q .1) (omega arith) (c .long ∙ h)))
+        (ends-both (d .ends) (body-ends _ (k + length vs) l (d .ends .after) (f .1) (x .1) (q .1) (omega arith) (d .ends .kept .long ∙ h) (d .unkept)))

@@ -31,7 +31,7 @@ pub record Planned (ws : List Word) (s : Setting) : Type 0 where
   pub sound : soundOf (planOf s) ≡ true
   pub short : length (planOf s) ≤ 64 + 8 * length ws
   pub small : Every (λ n. n < 2 ^ 32) (planOf s)
-  -- its widths are the resolved ones: the ports in the order of the signature, and then the memories
+  -- its widths are the setting's (that those are the least ones is said by `Reads`, and on the page of the crate tipi): the ports in the order of the signature, and then the memories
   pub inputs : (i : ℕ) → i < length (s .actor .signature) → among (inputNames (s .actor .ports)) (getD (spelledOf (s .actor .signature)) i []) ≡ true → portAt (planOf s) i ≡ getD (s .widths) i 0
   pub outputs : (i : ℕ) → i < length (s .actor .signature) → among (inputNames (s .actor .ports)) (getD (spelledOf (s .actor .signature)) i []) ≡ false → portAt (planOf s) i ≡ getD (s .widths) i 0 + 256
   pub memories : (i : ℕ) → i < length (s .actor .memories) → memoryWidthAt (planOf s) i ≡ getD (s .widths) (length (s .actor .signature) + i) 0

@@ -5,7 +5,7 @@ use lib.ListN.{length, getD, List·getD-eq-default}
 use borrow.Author.Tests.{le-ltb, lt-ltb, le-leb, lt-leb, eq-eqb, ne-eqb}
 use mathlib.Core.Bool.{Bool}
 use mathlib.Core.List.{List, []}
-use Rattle.plan.specs.Sound.{memoryOk}
+use Rattle.plan.specs.Sound.{memoryOk, slotWidth, keepable}
 use Rattle.plan.specs.Steps.{rulesOf, top, widthOf, pushOver}
 use Rattle.plan.proofs.Laws.{pushes}
 use Rattle.plan.proofs.Arms.{leaves}
@@ -56,6 +56,7 @@ same-length-2 : tie.Need-same-length-2
 same-length-2 c = search needs
 
 returns : tie.Need-returns
+unfolding slotWidth keepable
 returns c = (c .before .before .before .before .before .before .before .before .before .before .before .before .pre .4, c .before .before .keep .ensures .0 (c .before .before .before .before .before .before .before .before .before .before .before .before .args .ws .now) (c .before .before .before .before .before .before .before .before .before .before .before .before .pre .5), rw (c .before .before .before .before .before .before .before .i .given .1) (c .before .before .keep .ensures .1 (c .before .before .before .before .before .before .before .before .before .before .before .before .args .ws .now) (c .before .before .before .before .before .before .before .before .before .before .before .before .args .assigned) (c .before .before .before .waiting .ensures .0)))
 
 same-length-3 : tie.Need-same-length-3

@@ -29,8 +29,8 @@ width-if-requires c κs = search needs
 enum-known-i-3 : tie.Need-enum-known-i-3
 enum-known-i-3 c = search needs
 
-slot-width-requires : tie.Need-slot-width-requires
-slot-width-requires c κs = search needs
+let-width-requires : tie.Need-let-width-requires
+let-width-requires c κs = search needs
 
 enum-known-i-4 : tie.Need-enum-known-i-4
 enum-known-i-4 c = search needs
@@ -107,8 +107,8 @@ widest-requires c κs = search needs
 enum-known-i-10 : tie.Need-enum-known-i-10
 enum-known-i-10 c = search needs
 
-slot-width-requires-2 : tie.Need-slot-width-requires-2
-slot-width-requires-2 c κs = search needs
+arm-ok-requires : tie.Need-arm-ok-requires
+arm-ok-requires c κs = search needs
 
 widest-requires-2 : tie.Need-widest-requires-2
 widest-requires-2 c κs = search needs
@@ -137,7 +137,7 @@ returns-2 c = rw (c .before .before .before .before .i2 .given .1) (c .width-if 
 
 returns-3 : tie.Need-returns-3
 unfolding inputOk memoryOk slotWidth
-returns-3 c = rw (c .before .before .i3 .given .1) (c .slot-width .ensures)
+returns-3 c = rw (c .before .before .i3 .given .1) (c .let-width .ensures)
 
 returns-4 : tie.Need-returns-4
 unfolding inputOk memoryOk slotWidth
@@ -163,7 +163,7 @@ returns-10 c = rw (c .before .enum-told .given .1) (c .widest .ensures)
 
 returns-11 : tie.Need-returns-11
 unfolding inputOk memoryOk slotWidth
-returns-11 c = rw (c .before .before .before .before .i10 .given .1) (c .width-if4 .ensures ∙ rw (c .before .before .slot-width2 .ensures, c .before .widest2 .ensures))
+returns-11 c = rw (c .before .before .before .before .i10 .given .1) (c .width-if4 .ensures ∙ rw (c .before .before .arm-ok .ensures, c .before .widest2 .ensures))
 
 returns-12 : tie.Need-returns-12
 returns-12 c = rw (c .enum-told2 .given .1)
@@ -180,9 +180,9 @@ returns-15 c = rw (c .enum-told5 .given .1)
 pub width-of-spec : {M : Type 1} → statement M
 width-of-spec =
     tie.close (tie.spec enum-known-i const-width-requires enum-known-i-2 input-ok-requires port-at-requires width-if-requires enum-known-i-3
-    slot-width-requires enum-known-i-4 memory-ok-requires memory-width-requires width-if-requires-2 enum-known-i-5 waiting-requires
+    let-width-requires enum-known-i-4 memory-ok-requires memory-width-requires width-if-requires-2 enum-known-i-5 waiting-requires
     range-width-requires enum-known-i-6 waiting-requires-2 copies-width-requires enum-known-i-7 waiting-requires-3 waiting-requires-4
     beside-width-requires enum-known-i-8 waiting-requires-5 unary-width-requires width-if-requires-3 enum-known-i-9 waiting-requires-6
-    waiting-requires-7 between-width-requires enum-told widest-requires enum-known-i-10 slot-width-requires-2 widest-requires-2 width-if-requires-4
+    waiting-requires-7 between-width-requires enum-told widest-requires enum-known-i-10 arm-ok-requires widest-requires-2 width-if-requires-4
     enum-told-2 enum-told-3 enum-told-4 enum-told-5 returns returns-2 returns-3 returns-4 returns-5 returns-6 returns-7 returns-8 returns-9 returns-10
     returns-11 returns-12 returns-13 returns-14 returns-15)
