@@ -11,9 +11,17 @@ use Rattle.language.specs.Types.{plusOf, minusOf, logOf, floorOf, ceilOf, great
 use Rattle.typing.specs.Terms.{Term, number, port, log, floor, ceil, plus, minus, greater, valueAt, Closed, Fine}
 use Rattle.typing.proofs.Order.{Pos, Below, below-trans, plus-grows, minus-grows, number-grows, log-grows, floor-grows, ceil-grows, width-grows, greater-left, greater-right, greater-least}
 
+pub greater-positive : (x y : Exact) → Pos x → Pos y → Pos (greaterOf x y)
+unfolding greaterOf
+greater-positive x y p q = go (notAbove x y)
+  where
+    go : (b : Bool) → Pos (elim b [ true ↦ y | false ↦ x ])
+    go true = q
+    go false = p
+
 -- every value has its a and b above zero
 pub positive : (ws : List ℕ) (t : Term) → Pos (valueAt ws t)
-unfolding valueAt floorOf ceilOf greaterOf
+unfolding valueAt floorOf ceilOf
 positive ws (number n) = (zero-lt-suc 0, zero-lt-suc 0)
 positive ws (port i) = (zero-lt-suc 0, zero-lt-suc 0)
 positive ws (log s) = (le-trans (lit≤ {m = 1} {n = 2} tt) (le-max-left 2 (widthOf (valueAt ws s))), zero-lt-suc 0)
@@ -21,11 +29,7 @@ positive ws (floor s) = (zero-lt-suc 0, zero-lt-suc 0)
 positive ws (ceil s) = (zero-lt-suc 0, zero-lt-suc 0)
 positive ws (plus s t) = (mul-pos (positive ws s .0) (positive ws t .0), mul-pos (positive ws s .1) (positive ws t .1))
 positive ws (minus s t) = (mul-pos (positive ws s .0) (positive ws t .1), mul-pos (positive ws s .1) (positive ws t .0))
-positive ws (greater s t) = go (notAbove (valueAt ws s) (valueAt ws t)) (positive ws s) (positive ws t)
-  where
-    go : (b : Bool) → Pos (valueAt ws s) → Pos (valueAt ws t) → Pos (elim b [ true ↦ valueAt ws t | false ↦ valueAt ws s ])
-    go true p q = q
-    go false p q = p
+positive ws (greater s t) = greater-positive (valueAt ws s) (valueAt ws t) (positive ws s) (positive ws t)
 
 -- what names no port is the same at all widths
 pub fixed : (ws vs : List ℕ) (t : Term) → Closed t → valueAt ws t ≡ valueAt vs t

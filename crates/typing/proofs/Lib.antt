@@ -2,6 +2,7 @@ pub mod Logs
 pub mod Compare
 pub mod Order
 pub mod Grows
+pub mod Sentence
 pub mod Bounds
 pub mod Cells
 pub mod Walking
@@ -11,3 +12,4 @@ pub mod Decided
 pub mod Rules
 pub mod Bridge
 pub mod Accepted
+pub mod Exists
