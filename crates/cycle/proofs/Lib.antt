@@ -1,3 +1,4 @@
+pub mod Answered
 pub mod Fired
 pub mod Firing
 pub mod Leaves

@@ -1,4 +1,4 @@
--- THE THEOREMS: two texts are read in one way; and a plan that `read` gives is sound, short, and means what the texts mean. Assumes nothing.
+-- Two texts are read in one way, so that what `read` promises decides its answer and its table; and where it answers with a plan, which plan that is. Assumes nothing.
 use mathlib.Core.Path.{_≡_, refl, sym, ap, subst, _∙_}
 use mathlib.Core.Bool.{Bool, true, false}
 use mathlib.Core.List.{List, [], _∷_, _++_}
@@ -63,7 +63,7 @@ pub record PlanGiven (text bindings after : List ℕ) (l : ℕ) : Type 0 where
   pub worded : wordsOf text ≡ words ws
   pub planned : Planned ws setting
 
-abbrev is-plan : Answer → Type 0
+abbrev pub is-plan : Answer → Type 0
 is-plan (Plan l) = Unit {0}
 is-plan (Refused n t p) = ⊥
 
@@ -87,7 +87,6 @@ module _ (text bindings before after : List ℕ) (l : ℕ) where
       let q = reads-planned text bindings s r in
       record { setting = s; reads = r; plan = roomy s (leb (length (planOf s)) (length before)) refl e f; ws = q .0; worded = q .1; planned = q .2 }
 
--- demand 3: where `read` answers with a plan, the first numbers of the table are the plan of what the texts were read as; `Planned` says that it is
--- sound and short, that its widths are the least ones, and that each cycle and any run of cycles of it is what the texts mean
+-- where `read` answers with a plan, the first numbers of the table are the plan of what the texts were read as (`Planned`; that its widths are the least ones is Demands' `least`)
 pub read-given : {text bindings before after : List ℕ} {l : ℕ} → Read text bindings (Plan l) before after → PlanGiven text bindings after l
 read-given {text} {bindings} {before} {after} {l} h = given text bindings before after l (h .what) (h .reads) (h .told .answer) (h .told .table)
