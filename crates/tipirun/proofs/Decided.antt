@@ -1,17 +1,18 @@
--- The promises of `step` and `feed` allow one result: what bytes make of a machine is one machine, since two texts are read in one way. Assumes nothing.
+-- The promises of `step` and `feed` allow one result: what bytes make of a machine is one machine, since two texts are read in one way, and there is one, since they are read in some way. Assumes nothing.
 use mathlib.Core.Path.{_≡_, refl, sym, ap, subst, _∙_}
 use mathlib.Core.Bool.{Bool, true, false}
-use mathlib.Core.List.{List, [], _∷_}
+use mathlib.Core.List.{List, [], _∷_, _++_}
 use Prim.Native.Nat.{ℕ}
 use lib.Dec.{ltb}
 use lib.ListN.{take}
 use Rattle.language.specs.Reading.{Answer, Reads}
 use Rattle.tipi.specs.Told.{answerOf, tableAfter}
+use Rattle.tipi.proofs.Answers.{answers}
 use Rattle.tipi.proofs.Theorems.{reads-once}
 use Rattle.tipirun.specs.declared.state.Stage.{Stage}
 use Rattle.tipirun.specs.declared.state.Stage.the-variants.{ActorCount, Actor, BindingsCount, Bindings, CycleCount, Line, Through, Wrong, Stopped}
 use Rattle.tipirun.specs.declared.state.State.{State}
-use Rattle.tipirun.specs.Machine.{Machine, movedOf, passedAt, passedOf, planPassed, passedBy, atBindings, whole, Judges, Stepped, unwritten, preceded, Runs, stays, goes}
+use Rattle.tipirun.specs.Machine.{Machine, movedOf, passedAt, passedOf, planPassed, passedBy, atBindings, whole, Judges, Stepped, unwritten, preceded, Runs, stays, goes, started, endedOf, Prints, prints}
 
 -- where the texts are not read now, nothing goes by what they would be read as
 stage-alike : (x y : Answer) (g : Stage) (s : State) (l : List ℕ) → atBindings g ≡ false → passedAt x g s l ≡ passedAt y g s l
@@ -63,3 +64,18 @@ runs-once (b ∷ bs) m r s (goes {t = t} {r = v} h x) (goes {t = u} {r = w} k y)
     let f = runs-once bs (unwritten u) v w (subst (λ (z : Machine). Runs (unwritten z) bs v) e x) y in
     let g : t .wrote ≡ u .wrote = ap (λ (z : Machine). z .wrote) e in
     cc
+
+-- ---- and there is one
+
+stepped-some : (m : Machine) (b : ℕ) → (t : Machine) × Stepped m b t
+stepped-some m b =
+    let n = movedOf m b in
+    let q = answers (take (n .state .actor) (n .actor)) (take (n .state .bindings) (n .bindings)) in
+    (passedBy (q .0) n, record { what = q .0; judges = record { read = λ e. q .1 }; makes = refl })
+
+runs-some : (bs : List ℕ) (m : Machine) → (r : Machine) × Runs m bs r
+runs-some [] m = (unwritten m, stays)
+runs-some (b ∷ bs) m = let s = stepped-some m b in let r = runs-some bs (unwritten (s .0)) in (preceded (s .0 .wrote) (r .0), goes (s .1) (r .1))
+
+pub prints-some : (input : List ℕ) → (out : List ℕ) × Prints input out
+prints-some input = let r = runs-some input started in (r .0 .wrote ++ endedOf (r .0), prints (r .1))

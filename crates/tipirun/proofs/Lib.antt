@@ -17,5 +17,5 @@ pub mod CycleRuns
 pub mod Signatures
 pub mod Laying
 pub mod Spent
-pub mod Worked
 pub mod Decided
+pub mod Worked

@@ -11,6 +11,7 @@ use lib.Seq.{take-all}
 use Rattle.language.specs.Bindings.{Got, got, lost, after}
 use Rattle.language.specs.Reading.{Answer, refused, accepted, Early, early, Reads, reads-early, reads-late}
 use Rattle.language.specs.Sizes.{Setting}
+use Rattle.language.specs.declared.Text.{Text}
 use Rattle.language.specs.declared.Text.the-variants.{Actor as InActor}
 use Rattle.language.specs.Worked.{isBad, line, Input, counted, inputOf, answered, Writes, writes-bad, writes}
 use Rattle.planned.specs.PlanOf.{planOf}
@@ -100,7 +101,7 @@ pub record Ready (s : Setting) (m : Machine) : Type 0 where
 
 -- what is written for two texts and what follows them
 pub data Opens (actor bindings rest out : List ℕ) : Type 0 where
-  refuses : (n p : ℕ) (x : Answer) → Reads actor bindings x → answered x rest ≡ line (n ∷ p ∷ []) → out ≡ line (n ∷ p ∷ []) → Opens actor bindings rest out
+  refuses : (n p : ℕ) (t : Text) → Reads actor bindings (refused n t p) → out ≡ line (n ∷ p ∷ []) → Opens actor bindings rest out
   no-room : (s : Setting) → Reads actor bindings (accepted s) → 16_384 < length (planOf s) → out ≡ line (13 ∷ 0 ∷ []) → Opens actor bindings rest out
   runs-on : (s : Setting) (m : Machine) → Reads actor bindings (accepted s) → length (planOf s) ≤ 16_384 → Ready s m → From m rest out → Opens actor bindings rest out
 
@@ -127,7 +128,7 @@ module _ (actor bindings rest out : List ℕ) (m : Machine) (e : m .state .stage
 
   pub opened : (x : Answer) → Reads actor bindings x → From (unwritten (passedBy x m)) rest out → Opens actor bindings rest out
   unfolding answerOf judgedOf answered
-  opened (refused n t p) r w = refuses n p (refused n t p) r refl (stopped-writes _ n p rest out refl (told-as (refused n t p) (Refused n t p) refl w))
+  opened (refused n t p) r w = refuses n p t r (stopped-writes _ n p rest out refl (told-as (refused n t p) (Refused n t p) refl w))
   opened (accepted s) r w = go (leb (length (planOf s)) (length (m .plan))) refl
     where
       go : (b : Bool) → leb (length (planOf s)) (length (m .plan)) ≡ b → Opens actor bindings rest out

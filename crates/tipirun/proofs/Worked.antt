@@ -1,4 +1,5 @@
--- THE THEOREM: for every input shorter than 2^64 - 1 bytes what the machine writes (`Prints`) is what document 01 says, but for row 13, where it writes `13 0`. Assumes nothing.
+-- THE THEOREM of specs/Statement.antt: for every input shorter than 2^64 - 1 bytes what the machine writes (`Prints`) is what document 01 says where the plan has room, and `13 0` where it has none;
+-- and that is one output, for every such input. Assumes nothing.
 -- Each byte's step and the end are in the contracts of `feed` and `ended`; that `main`, which moves the bytes, writes no more and no less is read, not stated.
 use mathlib.Core.Path.{_≡_, refl, sym, ap, ap₂, _∙_, subst}
 use mathlib.Core.Bool.{Bool, true, false}
@@ -10,18 +11,20 @@ use lib.Dec.{leb}
 use lib.ListN.{length, getD, take, drop, replicate, length-replicate, getD-replicate}
 use lib.Seq.{sets, sets-eq, take-at}
 use Rattle.language.specs.Bindings.{Got, got, lost, after}
-use Rattle.language.specs.Reading.{accepted, Reads}
+use Rattle.language.specs.Reading.{Answer, accepted, Reads}
 use Rattle.language.specs.Sizes.{Setting}
 use Rattle.language.specs.Meaning.{cellWidths}
-use Rattle.language.specs.Worked.{line, anyNumber, cycles, Input, inputOf, Writes, writes}
+use Rattle.language.specs.Worked.{line, isBad, anyNumber, cycles, Input, inputOf, answered, Writes, writes-bad, writes}
 use Rattle.making.specs.Made.{tableAfter as tableWith}
 use Rattle.planned.specs.PlanOf.{planOf}
 use Rattle.planned.proofs.Theorems.{reads-planned}
 use Rattle.tipi.specs.Told.{tableAfter}
+use Rattle.tipi.proofs.Theorems.{reads-once}
 use Rattle.tipirun.specs.declared.state.Stage.the-variants.{Line}
 use Rattle.tipirun.specs.Reading.{startOf}
 use Rattle.tipirun.specs.Lines.{portsOf, cellsOf}
 use Rattle.tipirun.specs.Machine.{Machine, Prints}
+use Rattle.tipirun.specs.Statement.{HasRoom, Worked, as-01, row-13}
 use Rattle.tipirun.proofs.CountLines.{lineEnd}
 use Rattle.tipirun.proofs.Opening.{Ready}
 use Rattle.tipirun.proofs.LineValues.{Slots}
@@ -29,7 +32,8 @@ use Rattle.tipirun.proofs.CycleRuns.{Agrees, AtLine, cycles-run}
 use Rattle.tipirun.proofs.Signatures.{turns-agree, lines-agree}
 use Rattle.tipirun.proofs.Laying.{reads-laid}
 use Rattle.tipirun.proofs.Spent.{leaves-got, same-cycles, input-leaves, count-leaves}
-use Rattle.tipirun.proofs.Shown.{Shown, as-told, thirteen, cycles-come, shown}
+use Rattle.tipirun.proofs.Decided.{prints-some}
+use Rattle.tipirun.proofs.Shown.{Shown, as-told, thirteen, cycles-come, this-one, shown}
 
 take-zeros : (n m : ℕ) → n ≤ m → take {A = ℕ} n (replicate m 0) ≡ replicate n 0
 take-zeros zero m h = refl
@@ -94,23 +98,44 @@ least-cycles s k most memory outputs bs h = go (leb k most) refl
 few-bytes : (input : List ℕ) (n : ℕ) (i : Input) (r : List ℕ) (k : ℕ) (x : List ℕ) → length input < n → inputOf input ≡ got i r → after (anyNumber r) lineEnd ≡ got k x → length x < n
 few-bytes input n i r k x h e f = leaves-got n (after (anyNumber r) lineEnd) k x f (count-leaves r n (leaves-got n (inputOf input) i r e (input-leaves input n h)))
 
-pub data Worked (input out : List ℕ) : Type 0 where
-  as-01 : Writes input out → Worked input out
-  row-13 : {i : Input} {r : List ℕ} (s : Setting) → inputOf input ≡ got i r → Reads (i .actor) (i .bindings) (accepted s) → 16_384 < length (planOf s) → out ≡ line (13 ∷ 0 ∷ []) → Worked input out
-
 pub worked : (input out : List ℕ) → length input < 18_446_744_073_709_551_615 → Prints input out → Worked input out
 worked input out h x = go (shown input out h x)
   where
     go : Shown input out → Worked input out
-    go (as-told w) = as-01 w
+    go (as-told h w) = as-01 h w
     go (thirteen s e r l f) = row-13 s e r l f
     go (cycles-come {i = i} {r = r} s m k y e a l q f g z) =
         let t = agrees-so (i .actor) (i .bindings) s a in
         let n = min k 18_446_744_073_709_551_615 in
         let cells : List ℕ = replicate (length (cellWidths s)) 0 in
         let slots : List ℕ = replicate (length (s .actor .signature)) 0 in
-        as-01
+        as-01 (this-one s e a l)
         (subst (Writes input)
         (g ∙ sym (cycles-run s t n m (startOf (m .state) Line n) cells slots y out (first-stands s t m n l q) refl z
         ∙ least-cycles s k 18_446_744_073_709_551_615 cells slots y (few-bytes input 18_446_744_073_709_551_615 i r k y h e f)))
         (writes (accepted s) e a))
+
+-- ---- one output
+
+same-texts : {i j : Input} (x y : Answer) → i ≡ j → Reads (i .actor) (i .bindings) x → Reads (j .actor) (j .bindings) y → x ≡ y
+same-texts {i} x y e a b = reads-once (i .actor) (i .bindings) x y a (subst (λ (k : Input). Reads (k .actor) (k .bindings) y) (sym e) b)
+
+writes-once : (input o q : List ℕ) → Writes input o → Writes input q → o ≡ q
+writes-once input o q (writes-bad e) (writes-bad f) = refl
+writes-once input o q (writes-bad e) (writes y f b) = absurd (let g = sym e ∙ f in let z : _≡_ {A = ℕ} 0 1 = cc in omega arith)
+writes-once input o q (writes x e a) (writes-bad f) = absurd (let g = sym e ∙ f in let z : _≡_ {A = ℕ} 0 1 = cc in omega arith)
+writes-once input o q (writes {i = i} {r = r} x e a) (writes {i = j} {r = s} y f b) =
+    let g = sym e ∙ f in
+    let u : i ≡ j = cc in
+    let v : r ≡ s = cc in
+    ap₂ answered (same-texts x y u a b) v
+
+pub worked-once : (input o q : List ℕ) → Worked input o → Worked input q → o ≡ q
+worked-once input o q (as-01 h w) (as-01 k x) = writes-once input o q w x
+worked-once input o q (as-01 h w) (row-13 s e a l f) = absurd (let n = h .fits s e a in omega arith)
+worked-once input o q (row-13 s e a l f) (as-01 h w) = absurd (let n = h .fits s e a in omega arith)
+worked-once input o q (row-13 s e a l f) (row-13 t g b m k) = f ∙ sym k
+
+-- every input has an output
+pub worked-some : (input : List ℕ) → length input < 18_446_744_073_709_551_615 → (out : List ℕ) × Worked input out
+worked-some input h = let p = prints-some input in (p .0, worked input (p .0) h (p .1))

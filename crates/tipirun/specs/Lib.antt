@@ -2,3 +2,4 @@ pub mod Written
 pub mod Reading
 pub mod Lines
 pub mod Machine
+pub mod Statement

@@ -153,9 +153,13 @@ endedAt (Stopped n p) m = line (n ∷ p ∷ [])
 unfoldable pub endedOf : Machine → List ℕ
 endedOf m = endedAt (m .state .stage) m
 
+-- "the plan table holds 16,384 numbers"
+abbrev pub room : ℕ
+room = 16_384
+
 -- "memory starts at zeros"
 unfoldable pub started : Machine
-started = machine beginOf (replicate 8_193 0) (replicate 2_049 0) (replicate 16_384 0) (replicate 16 0) (replicate 16 0) (replicate 256 0) []
+started = machine beginOf (replicate 8_193 0) (replicate 2_049 0) (replicate room 0) (replicate 16 0) (replicate 16 0) (replicate 256 0) []
 
 -- all that is written for an input
 pub data Prints (input : List ℕ) : List ℕ → Type 0 where
