@@ -1,5 +1,6 @@
 -- The bindings as the program holds them: three numbers for each line, the place of its name, the name's length in bytes, and its width or value; the widths' lines first.
 -- Assumes nothing: these are definitions.
+use mathlib.Core.Path.{_≡_, refl}
 use mathlib.Core.Bool.{Bool, true, false, _&&_}
 use mathlib.Core.List.{List, [], _∷_, _++_}
 use Prim.Native.Nat.{ℕ, zero, suc, _+_, _*_, _≤_, _<_}
@@ -19,9 +20,16 @@ cells (b ∷ l) = b .called .at ∷ length (b .called .spelled) ∷ b .value ∷
 unfoldable pub tableOf : Bindings → List ℕ
 tableOf b = cells (b .widths) ++ cells (b .values)
 
+-- the most numbers of a table: three for each line, and two sections of lines
+abbrev pub mostNumbers : ℕ
+mostNumbers = 96
+
+pub sizes : mostNumbers ≡ 2 * (3 * limits .lines)
+sizes = refl
+
 -- the text is short enough (row 1 has tested that) and a table of any bindings fits
 unfoldable pub roomy : List ℕ → List ℕ → Bool
-roomy text t = leb (length text) (limits .bindings) && leb 96 (length t)
+roomy text t = leb (length text) (limits .bindings) && leb mostNumbers (length t)
 
 -- what is answered, and what the lent table then holds: of a refusal what it held before
 unfoldable pub answerOf : List ℕ → List ℕ → Answer

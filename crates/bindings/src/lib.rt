@@ -1,6 +1,7 @@
 // The bindings text, read into a lent table of its lines (row 2 of document 01).
 // What comes in: the text and a table. What goes out: how many lines bind widths and values, with three numbers in the
 // table for each (its name's place and length, its width or value), or the first byte at which no right text continues.
+ghost use Rattle.language.specs.Limits.{limits};
 ghost use mathlib.Core.Path.{_≡_};
 ghost use mathlib.Core.Bool.{_&&_};
 ghost use mathlib.Core.List.{[], _∷_};
@@ -19,7 +20,7 @@ pub enum Answer {
     Bound(u32, u32),
     // The first byte at which no right text continues.
     Wrong(u32),
-    // A text over its limit or a table under 96 numbers: nothing is read.
+    // A text over its limit or a table under so many numbers as the most lines have: nothing is read.
     NoRoom,
 }
 
@@ -38,14 +39,19 @@ const NAME: usize = language::Actor::NAME as usize;
 
 const LINES: usize = language::Bindings::LINES as usize;
 
+// Three numbers for each line of a section, and two sections.
+const SECTION: usize = 3 * LINES;
+
+pub const NUMBERS: usize = 2 * SECTION;
+
 const BYTES: usize = language::Bindings::BYTES as usize;
 
 // The number with one digit more, or 0 where the byte may not follow.
 fn grown(n: usize, b: u8, most: usize) -> usize
-    requires { ⌜ (n ≤ 65535) × (most ≤ 65535) ⌝ }
+    requires { ⌜ (n ≤ 65535) × (most ≤ limits .typeNumber) ⌝ }
     ensures { λ r. ⌜ r ≡ grownOf most n b ⌝ }
 {
-    if !names::is_digit(b) {
+    if !spelling::is_digit(b) {
         return 0;
     }
     if n == 0 {
@@ -60,7 +66,7 @@ fn grown(n: usize, b: u8, most: usize) -> usize
 
 // The digits after the first.
 fn digits(text: &[u8], from: usize, first: usize, most: usize) -> Step
-    requires { ⌜ (from ≤ length (now text)) × (first ≤ most) × (most ≤ 65535) ⌝ }
+    requires { ⌜ (from ≤ length (now text)) × (first ≤ most) × (most ≤ limits .typeNumber) ⌝ }
     ensures { λ r. ⌜ Reads (now (text .entry)) most (digitsFrom most first (drop from (now (text .entry)))) (numberTold (now (text .entry))) r ⌝ }
 {
     let mut n = first;
@@ -77,14 +83,14 @@ fn digits(text: &[u8], from: usize, first: usize, most: usize) -> Step
 }
 
 fn number(text: &[u8], from: usize, most: usize) -> Step
-    requires { ⌜ (from ≤ length (now text)) × (9 ≤ most) × (most ≤ 65535) ⌝ }
+    requires { ⌜ (from ≤ length (now text)) × (9 ≤ most) × (most ≤ limits .typeNumber) ⌝ }
     ensures { λ r. ⌜ Reads (now (text .entry)) most (numberUpTo most (drop from (now (text .entry)))) (numberTold (now (text .entry))) r ⌝ }
 {
     if text.len() <= from {
         return Step::Lost(from);
     }
     let b = text[from];
-    if !names::is_digit(b) {
+    if !spelling::is_digit(b) {
         return Step::Lost(from);
     }
     digits(text, from + 1, b as usize - 48, most)
@@ -92,7 +98,7 @@ fn number(text: &[u8], from: usize, most: usize) -> Step
 
 // A number and the end of its line.
 fn number_line(text: &[u8], from: usize, most: usize) -> Step
-    requires { ⌜ (from ≤ length (now text)) × (9 ≤ most) × (most ≤ 65535) ⌝ }
+    requires { ⌜ (from ≤ length (now text)) × (9 ≤ most) × (most ≤ limits .typeNumber) ⌝ }
     ensures { λ r. ⌜ Reads (now (text .entry)) most (ended most (drop from (now (text .entry)))) (numberTold (now (text .entry))) r ⌝ }
 {
     match number(text, from, most) {
@@ -111,7 +117,7 @@ fn number_line(text: &[u8], from: usize, most: usize) -> Step
 
 // The same after a blank.
 fn blank_number(text: &[u8], from: usize, most: usize) -> Step
-    requires { ⌜ (from ≤ length (now text)) × (9 ≤ most) × (most ≤ 65535) ⌝ }
+    requires { ⌜ (from ≤ length (now text)) × (9 ≤ most) × (most ≤ limits .typeNumber) ⌝ }
     ensures { λ r. ⌜ Reads (now (text .entry)) most (valued most (drop from (now (text .entry)))) (numberTold (now (text .entry))) r ⌝ }
 {
     if text.len() <= from {
@@ -133,7 +139,7 @@ fn taken(text: &[u8], table: &[u32], k: usize, run: &[u8]) -> bool
         i -= 1;
         let at = table[3 * i] as usize;
         let end = at + table[3 * i + 1] as usize;
-        if names::same_bytes(&text[at..end], run) {
+        if spelling::same_bytes(&text[at..end], run) {
             return true;
         }
     }
@@ -147,7 +153,7 @@ fn may_end(text: &[u8], table: &[u32], k: usize, from: usize, n: usize) -> bool
 {
     let end = from + n;
     let run = &text[from..end];
-    if !names::good_name(run) {
+    if !spelling::good_name(run) {
         return false;
     }
     !taken(text, table, k, run)
@@ -158,7 +164,7 @@ fn goes_on(text: &[u8], table: &[u32], k: usize, from: usize, n: usize) -> bool
     requires { ⌜ Lent (now text) (now table) k (from + n + 1) ⌝ }
     ensures { λ r. ⌜ r ≡ (nameByte (getD (now (text .entry)) (from + n) 0) && mayGoOn (namesOf (linesIn (now (text .entry)) (now (table .entry)) k)) (take (n + 1) (drop from (now (text .entry))))) ⌝ }
 {
-    if !names::is_name_byte(text[from + n]) {
+    if !spelling::is_name_byte(text[from + n]) {
         return false;
     }
     if n + 1 < NAME {
@@ -175,7 +181,7 @@ fn name(text: &[u8], table: &[u32], k: usize, from: usize) -> Step
     ensures { λ r. ⌜ ReadsName (now (text .entry)) (namesOf (linesIn (now (text .entry)) (now (table .entry)) k)) from r ⌝ }
 {
     if from < text.len() {
-        if names::is_digit(text[from]) {
+        if spelling::is_digit(text[from]) {
             return Step::Lost(from);
         }
     }
@@ -205,8 +211,8 @@ fn put(table: &mut [u32], i: usize, at: usize, n: usize, v: usize)
 // Reads line i and stores it.
 fn line(text: &[u8], table: &mut [u32], i: usize, from: usize, most: usize) -> Step
     requires { ⌜ Lent (now text) (now table) i from ⌝ }
-    requires { ⌜ i < 16 ⌝ }
-    requires { ⌜ (9 ≤ most) × (most ≤ 65535) ⌝ }
+    requires { ⌜ i < limits .lines ⌝ }
+    requires { ⌜ (9 ≤ most) × (most ≤ limits .typeNumber) ⌝ }
     ensures { λ r. ⌜ ReadsLine (now (text .entry)) most i from (now (table .entry)) r (now (table .exit)) ⌝ }
 {
     match name(text, table, i, from) {
@@ -224,7 +230,7 @@ fn line(text: &[u8], table: &mut [u32], i: usize, from: usize, most: usize) -> S
 // Reads k lines and stores them.
 fn lines(text: &[u8], table: &mut [u32], k: usize, from: usize, most: usize) -> Step
     requires { ⌜ Lent (now text) (now table) 0 from ⌝ }
-    requires { ⌜ (k ≤ 16) × (9 ≤ most) × (most ≤ 65535) ⌝ }
+    requires { ⌜ (k ≤ limits .lines) × (9 ≤ most) × (most ≤ limits .typeNumber) ⌝ }
     ensures { λ r. ⌜ ReadsLines (now (text .entry)) (linesOf (length (now (text .entry))) most k [] (drop from (now (text .entry)))) r (now (table .exit)) ⌝ }
 {
     let mut at = from;
@@ -242,7 +248,7 @@ fn lines(text: &[u8], table: &mut [u32], k: usize, from: usize, most: usize) -> 
 // A count and that many lines.
 fn section(text: &[u8], table: &mut [u32], from: usize, most: usize) -> Step
     requires { ⌜ Lent (now text) (now table) 0 from ⌝ }
-    requires { ⌜ (9 ≤ most) × (most ≤ 65535) ⌝ }
+    requires { ⌜ (9 ≤ most) × (most ≤ limits .typeNumber) ⌝ }
     ensures { λ r. ⌜ ReadsLines (now (text .entry)) (sectionOf (length (now (text .entry))) most (drop from (now (text .entry)))) r (now (table .exit)) ⌝ }
 {
     match number_line(text, from, LINES) {
@@ -271,11 +277,11 @@ pub fn read(text: &[u8], table: &mut [u32]) -> Answer
     if BYTES < text.len() {
         return Answer::NoRoom;
     }
-    if table.len() < 96 {
+    if table.len() < NUMBERS {
         return Answer::NoRoom;
     }
-    let mut widths = [0u32; 48];
-    let mut values = [0u32; 48];
+    let mut widths = [0u32; SECTION];
+    let mut values = [0u32; SECTION];
     match section(text, &mut widths, 0, WIDTH) {
         Step::Lost(p) => Answer::Wrong(p as u32),
         Step::Went(at, w) => match section(text, &mut values, at, VALUE) {

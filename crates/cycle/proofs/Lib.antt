@@ -1,11 +1,3 @@
 pub mod Answered
-pub mod Fired
-pub mod Firing
-pub mod Leaves
 pub mod Night
 pub mod Outcomes
-pub mod Rules
-pub mod Safe
-pub mod Turns
-pub mod Writes
-pub mod Zeros

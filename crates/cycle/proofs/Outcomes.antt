@@ -1,28 +1,48 @@
 -- The answers of a cycle, test by test. Assumes nothing.
 use Prim.Native.Nat.{ℕ, zero, suc, _+_, _-_, _*_, _^_, _≤_, _<_}
 use mathlib.Core.Path.{_≡_, refl, sym, ap, ap₂, _∙_, subst}
-use mathlib.Core.List.{List, [], _∷_, _++_, append-nil, append-assoc}
+use mathlib.Core.List.{List, [], _∷_, append-nil}
 use mathlib.Core.Bool.{Bool, true, false, _&&_}
 use native.Mathlib.Omega.{arith}
 use lib.Dec.{eqb, leb}
-use lib.ListN.{length, getD, take, drop, replicate, length-take, length-drop, take-append-drop, drop-of-length-le}
-use lib.Seq.{paste, take-take, drop-drop, take-add, take-all}
-use borrow.Author.Tests.{eq-eqb, ne-eqb, eqb-true, leb-true}
+use lib.ListN.{length, take, replicate, drop-of-length-le}
+use lib.Seq.{paste}
+use borrow.Author.Tests.{eq-eqb, eqb-true, leb-true}
 use Rattle.language.specs.Values.{onesOf}
 use Rattle.language.specs.Meaning.{Outcome, twice, written}
 use Rattle.plan.specs.Layout.{portCount, memoryCount, memoryWidthAt, memorySizeAt, cellsBefore, groupCount}
 use Rattle.plan.specs.Sound.{soundOf, sectionsOk, memoryFits}
-use Rattle.plan.proofs.Laws.{and-left, and-right}
-use Rattle.plan.proofs.Parts.{memory-fits}
-use Rattle.cycle.specs.Machine.{State, state, Fired, fired, unfired, firing, fitting, counts, execRules, refusedBy, ends, soundCycle, cycleOf}
-use Rattle.cycle.specs.Safety.{Ran}
-use Rattle.cycle.specs.Fire.{firedAt}
-use Rattle.cycle.specs.Turn.{Turned, outcome}
+use Rattle.plan.proofs.Tests.{and-left, and-right}
+use Rattle.plan_sections.proofs.Parts.{memory-fits}
+use Rattle.machine.specs.Machine.{State, state, execRules}
+use Rattle.judged.specs.Groups.{Fired, fired, unfired, firing}
+use Rattle.judged.specs.Tests.{fitting, counts}
+use Rattle.cycle.specs.Cycle.{refusedBy, ends, soundCycle, cycleOf}
+use Rattle.machine.specs.Safety.{Ran}
+use Rattle.judged.specs.declared.Answer.{Answer}
+use Rattle.judged.specs.declared.Answer.the-variants.{Accepted, Unsound, Miscounted, Unfit, Clash}
+use Rattle.judged.specs.Answers.{numberOf}
+use Rattle.judged.specs.Judged.{judged}
+use Rattle.cycle.specs.Turn.{outcome}
 
 pub counted : (p values memory outs : List ℕ) → length values ≡ portCount p → length outs ≡ portCount p → length memory ≡ cellsBefore p (memoryCount p) → counts p values memory outs ≡ true
 unfolding counts
 counted p values memory outs a b c =
     ap₂ _&&_ (ap₂ _&&_ (eq-eqb (length values) (portCount p) a) (eq-eqb (length outs) (portCount p) b)) (eq-eqb (length memory) (cellsBefore p (memoryCount p)) c)
+
+-- ---- test by test
+
+module _ (p : List ℕ) (mask : ℕ) (values memory outs : List ℕ) where
+  by-sound : Bool → Outcome
+  by-sound b = elim b [ true ↦ soundCycle p mask values memory outs | false ↦ refusedBy p (numberOf Unsound) memory outs ]
+
+  pub cycle-20 : soundOf p ≡ false → cycleOf p mask values memory outs ≡ refusedBy p (numberOf Unsound) memory outs
+  unfolding cycleOf by-sound
+  cycle-20 h = ap by-sound h
+
+  pub cycle-sound : soundOf p ≡ true → cycleOf p mask values memory outs ≡ soundCycle p mask values memory outs
+  unfolding cycleOf by-sound
+  cycle-sound h = ap by-sound h
 
 module _ (p : List ℕ) (mask : ℕ) (values memory outs : List ℕ) where
   abbrev start : State
@@ -32,98 +52,84 @@ module _ (p : List ℕ) (mask : ℕ) (values memory outs : List ℕ) where
   by-groups f = elim f [ unfired n ↦ refusedBy p n memory outs | fired rs ↦ ends p mask memory outs (execRules p values memory rs start) ]
 
   abbrev by-fit : Bool → Outcome
-  by-fit b = elim b [ false ↦ refusedBy p 22 memory outs | true ↦ by-groups (firing p mask 0 (groupCount p)) ]
+  by-fit b = elim b [ false ↦ refusedBy p (numberOf Unfit) memory outs | true ↦ by-groups (firing p mask 0 (groupCount p)) ]
 
-  pub cycle-21 : counts p values memory outs ≡ false → soundCycle p mask values memory outs ≡ refusedBy p 21 memory outs
+  abbrev by-counts : Bool → Outcome
+  by-counts b = elim b [ false ↦ refusedBy p (numberOf Miscounted) memory outs | true ↦ by-fit (fitting p mask values memory) ]
+
+  pub cycle-21 : counts p values memory outs ≡ false → soundCycle p mask values memory outs ≡ refusedBy p (numberOf Miscounted) memory outs
   unfolding soundCycle
-  cycle-21 h = ap (λ (b : Bool). elim b [ false ↦ refusedBy p 21 memory outs | true ↦ by-fit (fitting p mask values memory) ]) h
+  cycle-21 h = ap by-counts h
+
+  by-clash : State → Bool → Outcome
+  by-clash s b =
+      elim b [
+        | true ↦ refusedBy p (numberOf Clash) memory outs
+        | false ↦ record { answer = numberOf Accepted; count = onesOf 32 mask; outputs = s .outputs; memory = written (s .writes) memory }
+      ]
+
+  ends-25 : {held next changed : List ℕ} {s : State} {b : Bool} → Ran memory held next changed b s → b ≡ true → ends p mask memory outs s ≡ refusedBy p (numberOf Clash) memory outs
+  unfolding ends by-clash
+  ends-25 {held} {next} {changed} {s} r e = ap (by-clash s) (sym (r .write .clashes) ∙ e)
+
+  ends-0 : {held next changed : List ℕ} {s : State} {b : Bool} → Ran memory held next changed b s → b ≡ false
+      → ends p mask memory outs s ≡ outcome (numberOf Accepted) (onesOf 32 mask) held (take (length memory) next)
+  unfolding ends by-clash
+  ends-0 {held} {next} {changed} {s} r e =
+      ap (by-clash s) (sym (r .write .clashes) ∙ e)
+      ∙ ap₂ (λ (o m : List ℕ). outcome (numberOf Accepted) (onesOf 32 mask) o m) (sym (r .output)) (sym (r .write .holds e))
 
   module _ (hc : counts p values memory outs ≡ true) where
     counted-on : soundCycle p mask values memory outs ≡ by-fit (fitting p mask values memory)
     unfolding soundCycle
-    counted-on = ap (λ (b : Bool). elim b [ false ↦ refusedBy p 21 memory outs | true ↦ by-fit (fitting p mask values memory) ]) hc
+    counted-on = ap by-counts hc
 
-    pub cycle-22 : fitting p mask values memory ≡ false → soundCycle p mask values memory outs ≡ refusedBy p 22 memory outs
+    pub cycle-22 : fitting p mask values memory ≡ false → soundCycle p mask values memory outs ≡ refusedBy p (numberOf Unfit) memory outs
     cycle-22 h = counted-on ∙ ap by-fit h
 
-    pub cycle-unfired : (a : ℕ) (l : List ℕ) → fitting p mask values memory ≡ true → firedAt p a l ≡ firing p mask 0 (groupCount p) → (a ≡ 0 → ⊥) → soundCycle p mask values memory outs ≡ refusedBy p a memory outs
-    unfolding firedAt
-    cycle-unfired a l h e z =
-        counted-on ∙ ap by-fit h ∙ ap by-groups (sym (ap (λ (b : Bool). elim b [ true ↦ fired l | false ↦ unfired a ]) (sym (ne-eqb a 0 z)) ∙ e))
+    -- ---- a cycle as it is judged
 
-    pub cycle-fired : (l : List ℕ) → fitting p mask values memory ≡ true → firedAt p 0 l ≡ firing p mask 0 (groupCount p) → soundCycle p mask values memory outs ≡ ends p mask memory outs (execRules p values memory l start)
-    unfolding firedAt
-    cycle-fired l h e = counted-on ∙ ap by-fit h ∙ ap by-groups (sym e)
+    module _ (hs : soundOf p ≡ true) where
+      as-judged : cycleOf p mask values memory outs ≡ by-groups (judged p mask values memory)
+      unfolding judged
+      as-judged = cycle-sound p mask values memory outs hs ∙ counted-on ∙ go (fitting p mask values memory)
+        where
+          go : (b : Bool) → by-fit b ≡ by-groups (elim b [ true ↦ firing p mask 0 (groupCount p) | false ↦ unfired (numberOf Unfit) ])
+          go true = refl
+          go false = refl
 
-  by-clash : State → Bool → Outcome
-  by-clash s b = elim b [ true ↦ refusedBy p 25 memory outs | false ↦ record { answer = 0; count = onesOf 32 mask; outputs = s .outputs; memory = written (s .writes) memory } ]
+      pub turn-refused : (a : Answer) → unfired (numberOf a) ≡ judged p mask values memory → outcome (numberOf a) 0 outs memory ≡ cycleOf p mask values memory outs
+      unfolding refusedBy
+      turn-refused a e = sym (as-judged ∙ ap by-groups (sym e))
 
-  pub ends-25 : {held next marks : List ℕ} {s : State} {b : Bool} → Ran memory held next marks b s → b ≡ true → ends p mask memory outs s ≡ refusedBy p 25 memory outs
-  unfolding ends by-clash
-  ends-25 {held} {next} {marks} {s} r e = ap (by-clash s) (sym (r .write .clashes) ∙ e)
+      module _ (l : List ℕ) (e : fired l ≡ judged p mask values memory) {held next changed : List ℕ} {b : Bool} (r : Ran memory held next changed b (execRules p values memory l start)) where
+        pub turn-clash : b ≡ true → outcome (numberOf Clash) 0 outs memory ≡ cycleOf p mask values memory outs
+        unfolding refusedBy
+        turn-clash z = sym (as-judged ∙ ap by-groups (sym e) ∙ ends-25 r z)
 
-  pub ends-0 : {held next marks : List ℕ} {s : State} {b : Bool} → Ran memory held next marks b s → b ≡ false
-      → ends p mask memory outs s ≡ record { answer = 0; count = onesOf 32 mask; outputs = held; memory = take (length memory) next }
-  unfolding ends by-clash
-  ends-0 {held} {next} {marks} {s} r e =
-      ap (by-clash s) (sym (r .write .clashes) ∙ e)
-      ∙ ap₂ (λ (o m : List ℕ). record { answer = 0; count = onesOf 32 mask; outputs = o; memory = m }) (sym (r .output)) (sym (r .write .holds e))
+        pub turn-ran : {count : ℕ} {o m : List ℕ} → b ≡ false → count ≡ onesOf 32 mask → o ≡ held → m ≡ take (length memory) next
+            → outcome (numberOf Accepted) count o m ≡ cycleOf p mask values memory outs
+        turn-ran z c d k = rw (c, d, k) (sym (as-judged ∙ ap by-groups (sym e) ∙ ends-0 r z))
 
-pub fired-zero : (p l : List ℕ) (a : ℕ) {f : Fired p} → a ≡ 0 → firedAt p a l ≡ f → firedAt p 0 l ≡ f
-fired-zero p l a e h = rw e at h
+-- ---- a cycle that is refused before it is judged
 
-pub fired-known : (p : List ℕ) (l : List ℕ) (f : Fired p) → firedAt p 0 l ≡ f → f ≡ fired l
-unfolding firedAt
-fired-known p l f e = sym e
-
--- ---- outputs in a larger table
-
-pub part-length : (d : List ℕ) (at n : ℕ) → at + n ≤ length d → length (take n (drop at d)) ≡ n
-part-length d at n h = simp (length-take, length-drop) (omega arith)
-
-paste-self : (d : List ℕ) (at n : ℕ) → d ≡ paste d at (take n (drop at d)) n
-paste-self d at n =
-    sym (ap (λ (l : List ℕ). take at d ++ l ++ drop (at + n) d) (take-take n n (drop at d) (omega arith))
-    ∙ ap (λ (l : List ℕ). l ++ drop (at + n) d) (sym (take-add at n d)) ∙ take-append-drop (at + n) d)
-
-pub turned-refused : (p memory outputs : List ℕ) (a at n : ℕ) {o : Outcome} → at + n ≤ length outputs → o ≡ refusedBy p a memory (take n (drop at outputs)) → Turned o a 0 memory outputs outputs at n
+pub not-sound : (p : List ℕ) (mask : ℕ) (values memory outs : List ℕ) → soundOf p ≡ false → outcome (numberOf Unsound) 0 outs memory ≡ cycleOf p mask values memory outs
 unfolding refusedBy
-turned-refused p memory outputs a at n h e =
-    subst (λ (o : Outcome). Turned o a 0 memory outputs outputs at n) (sym e) (record { answers = refl; counts = refl; cells = refl; slots = paste-self outputs at n; long = part-length outputs at n h })
+not-sound p mask values memory outs h = sym (cycle-20 p mask values memory outs h)
 
-paste-whole : (d s : List ℕ) → paste d 0 s (length d) ≡ take (length d) s
-paste-whole d s =
+pub not-counted : (p : List ℕ) (mask : ℕ) (values memory outs : List ℕ) → soundOf p ≡ true → counts p values memory outs ≡ false → outcome (numberOf Miscounted) 0 outs memory ≡ cycleOf p mask values memory outs
+unfolding refusedBy
+not-counted p mask values memory outs h k = sym (cycle-sound p mask values memory outs h ∙ cycle-21 p mask values memory outs k)
+
+-- ---- what is committed
+
+pub paste-whole : (d s : List ℕ) (n : ℕ) → n ≡ length d → paste d 0 s n ≡ take (length d) s
+paste-whole d s n k =
     let e : 0 + length d ≡ length d = omega arith in
     let h : length d ≤ length d = omega arith in
-    rw (e, drop-of-length-le d h) (append-nil (take (length d) s))
+    rw (k, e, drop-of-length-le d h) (append-nil (take (length d) s))
 
-pub turned-done : (memory next outputs held : List ℕ) (mask count cells at n : ℕ) {o : Outcome} → count ≡ onesOf 32 mask → length held ≡ n → cells ≡ length memory
-    → o ≡ record { answer = 0; count = onesOf 32 mask; outputs = held; memory = take (length memory) next } → Turned o 0 count (paste memory 0 next cells) (paste outputs at held (length held)) outputs at n
-turned-done memory next outputs held mask count cells at n c h k e =
-    subst (λ (o : Outcome). Turned o 0 count (paste memory 0 next cells) (paste outputs at held (length held)) outputs at n) (sym e)
-    (record { answers = refl; counts = c; cells = rw k (paste-whole memory next); slots = rw h; long = h })
-
-pub turned-at : {o : Outcome} {answer count : ℕ} {memory outputs m t : List ℕ} (old : List ℕ) (at n : ℕ) → memory ≡ m → outputs ≡ t
-    → Turned o answer count m t old at n → Turned o answer count memory outputs old at n
-turned-at old at n d e r = record { answers = r .answers; counts = r .counts; cells = d ∙ r .cells; slots = e ∙ r .slots; long = r .long }
-
--- ---- a cycle by itself
-
-module _ (p : List ℕ) (mask : ℕ) (values memory outs : List ℕ) where
-  by-sound : Bool → Outcome
-  by-sound b = elim b [ true ↦ soundCycle p mask values memory outs | false ↦ refusedBy p 20 memory outs ]
-
-  pub cycle-20 : soundOf p ≡ false → cycleOf p mask values memory outs ≡ refusedBy p 20 memory outs
-  unfolding cycleOf by-sound
-  cycle-20 h = ap by-sound h
-
-  pub cycle-sound : soundOf p ≡ true → cycleOf p mask values memory outs ≡ soundCycle p mask values memory outs
-  unfolding cycleOf by-sound
-  cycle-sound h = ap by-sound h
-
-pub refused-as : (p memory outs : List ℕ) (a : ℕ) {o : Outcome} → o ≡ refusedBy p a memory outs → outcome a 0 outs memory ≡ o
-unfolding refusedBy
-refused-as p memory outs a e = sym e
+-- ---- the tests
 
 cells-bound : (p : List ℕ) (h : sectionsOk p ≡ true) (n : ℕ) → n ≤ memoryCount p → cellsBefore p n ≤ 256
 unfolding cellsBefore memoryFits

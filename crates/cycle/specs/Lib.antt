@@ -1,6 +1,3 @@
-pub mod Fire
-pub mod Machine
-pub mod Ready
+pub mod Cycle
 pub mod Run
-pub mod Safety
 pub mod Turn

@@ -8,7 +8,9 @@ use Rattle.language.specs.Parts.{each}
 use Rattle.language.specs.Meaning.{Outcome, Turn, memoryLeft}
 use Rattle.plan.specs.Layout.{portCount, memoryCount, cellsBefore}
 use Rattle.plan.specs.Sound.{soundOf}
-use Rattle.cycle.specs.Machine.{cycleOf}
+use Rattle.judged.specs.declared.Answer.the-variants.{Unsound, Miscounted}
+use Rattle.judged.specs.Answers.{numberOf}
+use Rattle.cycle.specs.Cycle.{cycleOf}
 
 -- the answer of a run, the memory it leaves, the output slots and the two numbers of each cycle
 pub record Result : Type 0 where
@@ -39,8 +41,8 @@ tablesFit p masks values memory outputs answers =
 unfoldable pub runOf : List ℕ → List ℕ → List ℕ → List ℕ → List ℕ → List ℕ → Result
 runOf p masks values memory outputs answers =
     elim (soundOf p) [
-      | false ↦ result 20 memory outputs answers
-      | true ↦ elim (tablesFit p masks values memory outputs answers) [ false ↦ result 21 memory outputs answers | true ↦ turnsOf p masks values memory outputs ]
+      | false ↦ result (numberOf Unsound) memory outputs answers
+      | true ↦ elim (tablesFit p masks values memory outputs answers) [ false ↦ result (numberOf Miscounted) memory outputs answers | true ↦ turnsOf p masks values memory outputs ]
     ]
 
 -- ---- the same as calls of `cycle`, one after the other

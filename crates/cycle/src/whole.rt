@@ -1,45 +1,34 @@
-// One cycle of a sound plan, in tables that are lent.
+// One cycle of a sound plan: it is judged, the rules act where nobody sees, and what they leave is committed.
 ghost use mathlib.Core.Path.{_≡_};
 ghost use mathlib.Core.Bool.{true};
-ghost use mathlib.Core.List.{[]};
-ghost use Prim.Native.Nat.{ℕ, _+_, _≤_, _<_};
-ghost use lib.ListN.{length, getD, take, drop, replicate};
-ghost use Rattle.plan.specs.Layout.{portCount, memoryCount, cellsBefore, groupCount};
+ghost use Prim.Native.Nat.{_≤_};
+ghost use lib.ListN.{length, take};
 ghost use Rattle.plan.specs.Sound.{soundOf};
-ghost use Rattle.cycle.specs.Machine.{state, execRules, soundCycle};
-ghost use Rattle.cycle.specs.Safety.{Ran};
-ghost use Rattle.cycle.specs.Fire.{Fires};
-ghost use Rattle.cycle.specs.Turn.{Turned, Tables};
+ghost use Rattle.machine.specs.Tables.{Tables};
+ghost use Rattle.cycle.specs.Cycle.{cycleOf};
+ghost use Rattle.judged.specs.Tests.{counts as Tests·counts};
+ghost use Rattle.cycle.specs.Turn.{outcome};
 use crate::Done;
-use crate::code::run_rules;
-use crate::groups::fire;
 use crate::refused;
-use crate::tables::clear;
-use crate::tables::copy;
-use crate::tables::prepare;
-use crate::tests::fitting;
-use plan::group_count;
-use plan::place;
+use judged::Answer;
+use judged::Judged;
+use judged::judge;
+use judged::number;
+use machine::act;
+use machine::copy;
 use value::present;
 
-// The rules that fire, over cells and outputs that nobody sees yet; whether a cell is written twice.
-fn act(
-    plan: &[u32],
-    values: &[u64],
-    memory: &[u64],
-    held: &mut [u64],
-    stack: &mut [u64],
-    next: &mut [u64],
-    marks: &mut [u32],
-    fired: &[u32],
-) -> bool
-    requires { ⌜ Tables (now plan) (now memory) (now held) (now stack) (now next) (now marks) (now fired) × (groupCount (now plan) ≤ 8) × ((j : ℕ) → j < groupCount (now plan) → Fires (now plan) (now values) (now memory) (getD (now fired) j 0)) ⌝ }
-    ensures { λ x. ⌜ Ran (now (memory .entry)) (now (held .exit)) (now (next .exit)) (now (marks .exit)) x (execRules (now (plan .entry)) (now (values .entry)) (now (memory .entry)) (take (groupCount (now (plan .entry))) (now (fired .entry))) (state [] [] (replicate (portCount (now (plan .entry))) 0) [])) ⌝ }
+const GROUPS: usize = language::Plan::GROUPS as usize;
+
+// The cells and the outputs, as the rules have left them.
+fn commit(memory: &mut [u64], next: &[u64], outputs: &mut [u64], held: &[u64])
+    requires { ⌜ (length (now memory) ≤ length (now next)) × (length (now outputs) ≤ length (now held)) ⌝ }
+    ensures { λ _. ⌜ (now (memory .exit) ≡ take (length (now (memory .entry))) (now (next .entry))) × (now (outputs .exit) ≡ take (length (now (outputs .entry))) (now (held .entry))) ⌝ }
 {
-    prepare(memory, next, marks);
-    clear(held);
-    let n = place(group_count(plan));
-    run_rules(plan, fired, n, values, memory, held, stack, next, marks)
+    let cells = memory.len();
+    copy(memory, 0, next, cells);
+    let ports = outputs.len();
+    copy(outputs, 0, held, ports);
 }
 
 // Nothing is changed before the last test has passed.
@@ -49,31 +38,29 @@ pub fn turn(
     values: &[u64],
     memory: &mut [u64],
     outputs: &mut [u64],
-    at: usize,
-    held: &mut [u64],
     stack: &mut [u64],
     next: &mut [u64],
-    marks: &mut [u32],
-    fired: &mut [u32],
+    changed: &mut [u32],
 ) -> Done
-    requires { ⌜ (soundOf (now plan) ≡ true) × (length (now values) ≡ portCount (now plan)) × (length (now memory) ≡ cellsBefore (now plan) (memoryCount (now plan))) × (at + portCount (now plan) ≤ length (now outputs)) × Tables (now plan) (now memory) (now held) (now stack) (now next) (now marks) (now fired) ⌝ }
-    ensures { λ r. ⌜ Turned (soundCycle (now (plan .entry)) mask (now (values .entry)) (now (memory .entry)) (take (portCount (now (plan .entry))) (drop at (now (outputs .entry))))) (r .answer) (r .present) (now (memory .exit)) (now (outputs .exit)) (now (outputs .entry)) at (portCount (now (plan .entry))) ⌝ }
+    requires { ⌜ soundOf (now plan) ≡ true ⌝ }
+    requires { ⌜ Tests·counts (now plan) (now values) (now memory) (now outputs) ≡ true ⌝ }
+    requires { ⌜ Tables (now memory) (now stack) (now next) (now changed) ⌝ }
+    ensures { λ r. ⌜ outcome (r .answer) (r .present) (now (outputs .exit)) (now (memory .exit)) ≡ cycleOf (now (plan .entry)) mask (now (values .entry)) (now (memory .entry)) (now (outputs .entry)) ⌝ }
 {
-    if !fitting(plan, mask, values, memory) {
-        return refused(22);
-    }
-    let answer = fire(plan, mask, fired);
-    if answer != 0 {
-        return refused(answer);
-    }
-    if act(plan, values, memory, held, stack, next, marks, fired) {
-        return refused(25);
-    }
-    let cells = memory.len();
-    copy(memory, 0, next, cells);
-    copy(outputs, at, held, held.len());
-    Done {
-        answer: 0,
-        present: present(mask),
+    let mut fired = [0u32; GROUPS];
+    match judge(plan, mask, values, memory, &mut fired) {
+        Judged::Refuse(answer) => refused(answer),
+        Judged::Act => {
+            let acted = act(plan, &fired, values, memory, stack, next, changed);
+            if acted.clash {
+                return refused(Answer::Clash);
+            }
+            let held = acted.outputs;
+            commit(memory, next, outputs, &held);
+            Done {
+                answer: number(Answer::Accepted),
+                present: present(mask),
+            }
+        }
     }
 }

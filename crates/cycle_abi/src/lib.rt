@@ -2,7 +2,7 @@
 // What comes in: a plan and tables, each as a pointer and a length.
 // What goes out: `cycle`'s answer, and all that `run` gives.
 ghost use mathlib.Core.Path.{_≡_};
-ghost use Rattle.cycle.specs.Machine.{cycleOf};
+ghost use Rattle.cycle.specs.Cycle.{cycleOf};
 ghost use Rattle.cycle.specs.Run.{result, runOf};
 
 #[no_mangle]

@@ -6,7 +6,13 @@ ghost use lib.ListN.{length};
 use libc::STDIN_FILENO;
 use libc::STDOUT_FILENO;
 
+// An actor's text has at most a word for each byte: four numbers each in the table, three on the tape.
 const BYTES: usize = language::Actor::BYTES as usize;
+
+const NUMBERS: usize = tape::LENGTH;
+
+// What is kept of a count before its next digit: more than a text is long.
+const COUNTED: usize = 65536;
 
 struct Numeral {
     value: usize,
@@ -35,7 +41,7 @@ fn count(all: &[u8], from: usize) -> Numeral
         if b == b'\n' {
             return Numeral { value: v, next: i };
         }
-        v = (v % 65536) * 10 + (b % 16) as usize;
+        v = (v % COUNTED) * 10 + (b % 16) as usize;
     }
     Numeral { value: v, next: i }
 }
@@ -70,7 +76,7 @@ fn show(actor: &[u8], table: &[u32], n: usize)
     while i < n {
         say(table[4 * i], b" ");
         say(table[4 * i + 1], b" ");
-        if table[4 * i] == 3 {
+        if table[4 * i] == words::kinds::DIGITS {
             say_constant(actor, table[4 * i + 1]);
         }
         i += 1;
@@ -81,7 +87,7 @@ fn show(actor: &[u8], table: &[u32], n: usize)
 // The numbers of a tape.
 fn show_tape(tape: &syntax::Tape, length: u32) {
     say(0, b" ");
-    let n = part_end(24576, 0, length as usize);
+    let n = part_end(NUMBERS, 0, length as usize);
     let mut i = 0;
     while i < n {
         say(tape[i], b" ");
@@ -97,7 +103,7 @@ fn fault_at(row: u32, place: u32) {
 
 // The actor's tape, or its fault.
 fn read(actor: &[u8]) {
-    let mut tape = [0u32; 24576];
+    let mut tape = [0u32; NUMBERS];
     match syntax::read(actor, &mut tape) {
         syntax::Said::Tape(n) => show_tape(&tape, n),
         syntax::Said::Refused(row, place) => fault_at(row, place),
@@ -157,7 +163,7 @@ fn both(all: &[u8], at: usize, table: &mut [u32]) -> usize
 }
 
 fn run(all: &[u8]) {
-    let mut table = [0u32; 32768];
+    let mut table = [0u32; 4 * BYTES];
     let mut at = 0;
     while at < all.len() {
         at = both(all, at, &mut table);

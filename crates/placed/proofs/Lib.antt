@@ -4,3 +4,5 @@ pub mod Earliest
 pub mod Every
 pub mod Lists
 pub mod Worded
+pub mod Names
+pub mod Same

@@ -10,7 +10,7 @@ use Rattle.plan.proofs.Item as item
 use Rattle.plan.specs.declared.Item.{Item}
 use Rattle.plan.specs.declared.Item.the-variants.{Const, Port, Let, Cell, Range, Copies, Beside, Before, Between, Choice, Arm, Keep, Assign, Write, Bad}
 use Rattle.plan.specs.Items.{unused}
-use Rattle.plan.specs.Steps.{actsOf}
+use Rattle.plan.specs.Items.{actsOf}
 
 abbrev leaving : List ℕ
 leaving = 0 ∷ 1 ∷ 2 ∷ 3 ∷ 4 ∷ 5 ∷ 6 ∷ 7 ∷ 8 ∷ 9 ∷ 10 ∷ 14 ∷ []

@@ -1,7 +1,4 @@
 pub mod Arms
-pub mod Laws
 pub mod Lists
-pub mod Parts
-pub mod Turns
-pub mod Vals
+pub mod Tests
 pub mod Waits

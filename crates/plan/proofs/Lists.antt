@@ -13,29 +13,26 @@ use lib.Pow.{pow-lt, pow-mono}
 use borrow.Author.Tests.{le-ltb, lt-ltb, le-leb, lt-leb, eq-eqb, ne-eqb}
 use Rattle.language.specs.Values.{bitOf}
 use Rattle.plan.specs.declared.Item.{Item}
-use Rattle.language.specs.declared.Unary.the-variants.{Invert, Plus, Not, All, NotAll, Any, NotAny, Odd, NotOdd}
-use Rattle.language.specs.declared.Binary.the-variants.{Multiply, Divide, Remainder, Add, Subtract, Left, Right, Less, AtMost, Greater, AtLeast, Equal, Unequal, And, NotAnd, Xor, NotXor, Or, NotOr, Both, Either}
 use Rattle.plan.specs.declared.Item.the-variants.{Const, Port, Let, Cell, Range, Copies, Beside, Before, Between, Choice, Arm, Keep, Assign, Write, Bad}
-use Rattle.plan.specs.Items.{decode, decodeAll, unaryItem, binaryItem, unused}
+use Rattle.plan.specs.Items.{encode, decode, decodeAll, unaryItem, unaryItems, binaryItem, binaryItems, itemsOf, unused}
 use Rattle.plan.specs.Layout.{memoriesFrom, memorySizeAt, cellsBefore, groupsFrom, groupAt, rulesBefore, rulesFrom, lengthAt, codeBefore}
-use Rattle.plan.specs.Steps.{itemAt, sumOf, top}
+use Rattle.plan.specs.Items.{itemAt}
+use Rattle.plan.specs.Layout.{sumOf}
+use Rattle.plan.specs.Waits.{top}
 
 -- ---- numbers past the last of a table
 
 pub decode-past : (o a b c : ℕ) → 14 ≤ o → decode o a b c ≡ Bad
 unfolding decode
-decode-past o a b c h =
-    List·getD-eq-default (Const a b c ∷ unused b (unused c (Port a)) ∷ unused b (unused c (Let a)) ∷ Cell a b c ∷ unused c (Range a b) ∷ unused c (Copies a b) ∷ unused b (unused c (Beside a)) ∷ unused c (unaryItem a b) ∷ binaryItem a b c ∷ unused a (unused b (unused c Choice)) ∷ unused c (Arm a b) ∷ unused c (Keep a b) ∷ unused b (unused c (Assign a)) ∷ Write a b c ∷ []) Bad h
+decode-past o a b c h = List·getD-eq-default (itemsOf a b c) Bad h
 
 pub unary-past : (a w : ℕ) → 9 ≤ a → unaryItem a w ≡ Bad
 unfolding unaryItem
-unary-past a w h =
-    List·getD-eq-default (Before Invert w ∷ Before Plus w ∷ Before Not w ∷ Before All w ∷ Before NotAll w ∷ Before Any w ∷ Before NotAny w ∷ Before Odd w ∷ Before NotOdd w ∷ []) Bad h
+unary-past a w h = List·getD-eq-default (unaryItems w) Bad h
 
 pub binary-past : (a m n : ℕ) → 21 ≤ a → binaryItem a m n ≡ Bad
 unfolding binaryItem
-binary-past a m n h =
-    List·getD-eq-default (Between Multiply m n ∷ Between Divide m n ∷ Between Remainder m n ∷ Between Add m n ∷ Between Subtract m n ∷ Between Left m n ∷ Between Right m n ∷ Between Less m n ∷ Between AtMost m n ∷ Between Greater m n ∷ Between AtLeast m n ∷ Between Equal m n ∷ Between Unequal m n ∷ Between And m n ∷ Between NotAnd m n ∷ Between Xor m n ∷ Between NotXor m n ∷ Between Or m n ∷ Between NotOr m n ∷ Between Both m n ∷ Between Either m n ∷ []) Bad h
+binary-past a m n h = List·getD-eq-default (binaryItems m n) Bad h
 
 -- what the default of a `match` on 0, 1, .., n - 1 knows: x is at least n
 abbrev pub Nots : ℕ → ℕ → Type 0
@@ -108,3 +105,21 @@ pub getD-any : (l : List ℕ) (i a b : ℕ) → i < length l → getD l i a ≡ 
 getD-any [] i a b h = absurd (omega arith)
 getD-any (x ∷ l) zero a b h = refl
 getD-any (x ∷ l) (suc i) a b h = getD-any l i a b (omega arith)
+
+-- an item has four numbers
+pub four-long : (i : Item) → length (encode i) ≡ 4
+four-long (Const w lo hi) = refl
+four-long (Port i) = refl
+four-long (Let k) = refl
+four-long (Cell m f n) = refl
+four-long (Range i j) = refl
+four-long (Copies n w) = refl
+four-long (Beside w) = refl
+four-long (Before u w) = refl
+four-long (Between o m n) = refl
+four-long Choice = refl
+four-long (Arm n k) = refl
+four-long (Keep k w) = refl
+four-long (Assign p) = refl
+four-long (Write m f n) = refl
+four-long Bad = refl

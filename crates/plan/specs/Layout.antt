@@ -4,6 +4,7 @@ use Prim.Native.Nat.{ℕ, zero, suc, _+_, _*_, _/_, _%_}
 use lib.ListN.{getD, take, drop}
 
 module _ (p : List ℕ) where
+  -- the form number
   abbrev pub form : ℕ
   form = getD p 0 0
 
@@ -11,6 +12,7 @@ module _ (p : List ℕ) where
   abbrev pub portCount : ℕ
   portCount = getD p 1 0
 
+  -- the number of a port
   abbrev pub portAt : ℕ → ℕ
   portAt i = getD p (2 + i) 0
 
@@ -18,12 +20,15 @@ module _ (p : List ℕ) where
   unfoldable pub memoriesFrom : ℕ
   memoriesFrom = 2 + portCount
 
+  -- how many memories there are
   unfoldable pub memoryCount : ℕ
   memoryCount = getD p memoriesFrom 0
 
+  -- the width of a memory
   unfoldable pub memoryWidthAt : ℕ → ℕ
   memoryWidthAt m = getD p (memoriesFrom + 1 + 2 * m) 0
 
+  -- the size of a memory
   unfoldable pub memorySizeAt : ℕ → ℕ
   memorySizeAt m = getD p (memoriesFrom + 2 + 2 * m) 0
 
@@ -36,9 +41,11 @@ module _ (p : List ℕ) where
   unfoldable pub groupsFrom : ℕ
   groupsFrom = memoriesFrom + 1 + 2 * memoryCount
 
+  -- how many groups there are
   unfoldable pub groupCount : ℕ
   groupCount = getD p groupsFrom 0
 
+  -- how many rules a group has
   unfoldable pub groupAt : ℕ → ℕ
   groupAt g = getD p (groupsFrom + 1 + g) 0
 
@@ -51,15 +58,19 @@ module _ (p : List ℕ) where
   unfoldable pub rulesFrom : ℕ
   rulesFrom = groupsFrom + 1 + groupCount
 
+  -- how many rules there are
   unfoldable pub ruleCount : ℕ
   ruleCount = getD p rulesFrom 0
 
+  -- the mask of the ports that a rule requires present
   unfoldable pub presentAt : ℕ → ℕ
   presentAt r = getD p (rulesFrom + 1 + 3 * r) 0
 
+  -- the mask of the ports that a rule requires absent
   unfoldable pub absentAt : ℕ → ℕ
   absentAt r = getD p (rulesFrom + 2 + 3 * r) 0
 
+  -- the length of a rule's code
   unfoldable pub lengthAt : ℕ → ℕ
   lengthAt r = getD p (rulesFrom + 3 + 3 * r) 0
 
@@ -72,8 +83,15 @@ module _ (p : List ℕ) where
   unfoldable pub codeFrom : ℕ
   codeFrom = rulesFrom + 1 + 3 * ruleCount
 
+  -- how many numbers of code there are
   unfoldable pub codeCount : ℕ
   codeCount = getD p codeFrom 0
 
+  -- a rule's code
   unfoldable pub codeAt : ℕ → List ℕ
   codeAt r = take (lengthAt r) (drop (codeFrom + 1 + codeBefore r) p)
+
+-- n numbers from a place on, `step` places apart
+unfoldable pub sumOf : List ℕ → ℕ → ℕ → ℕ → ℕ
+sumOf p from step zero = 0
+sumOf p from step (suc n) = sumOf p from step n + getD p (from + step * n) 0

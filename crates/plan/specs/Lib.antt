@@ -1,4 +1,4 @@
 pub mod Items
 pub mod Layout
 pub mod Sound
-pub mod Steps
+pub mod Waits

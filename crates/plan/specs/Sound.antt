@@ -1,7 +1,7 @@
 -- When a list of numbers is a sound plan. Assumes nothing: these are definitions.
 use mathlib.Core.Bool.{Bool, true, false, not, _&&_}
 use mathlib.Core.List.{List, [], _∷_}
-use Prim.Native.Nat.{ℕ, zero, suc, _+_, _-_, _*_, _/_, _%_, _^_, max}
+use Prim.Native.Nat.{ℕ, zero, suc, _+_, _-_, _*_, _%_, _^_, max}
 use lib.Dec.{eqb, leb, ltb}
 use lib.ListN.{length, getD, set, replicate}
 use Rattle.language.specs.Limits.{limits}
@@ -13,15 +13,19 @@ use Rattle.plan.specs.Layout.{form, portCount, portAt, memoryCount, memo
 
 -- ---- one rule's code: the widths of the values that wait, the latest first; the widths of the slots, `unset` where nothing was kept; the outputs assigned, as a mask
 
+-- "at most 256 wait"
 abbrev pub waiting : ℕ
 waiting = 256
 
+-- a slot for each of a rule's 16 `val`s, and 32 for `case`s within one another, each of eight words of an expression's 256
 abbrev pub slots : ℕ
 slots = 48
 
+-- the width of a slot that was not kept: no width, 64 at most, is as large
 abbrev pub unset : ℕ
 unset = 99
 
+-- the widths that wait, those of the slots, and the outputs assigned; or an item was not sound
 pub data Check : Type 0 where
   check : List ℕ → List ℕ → ℕ → Check
   broken : Check
@@ -32,22 +36,30 @@ pub record Rules : Type 0 where
   pub present : ℕ
   pub taken : ℕ
 
+-- the same of a plan and two masks
+abbrev pub rulesOf : List ℕ → ℕ → ℕ → Rules
+rulesOf p present taken = record { plan = p; present = present; taken = taken }
+
 -- one value more waits: its width is at most 64, and there is room
 unfoldable pub push : ℕ → List ℕ → List ℕ → ℕ → Check
 push w ws ls d = elim (leb w (limits .expressionWidth) && ltb (length ws) waiting) [ true ↦ check (w ∷ ws) ls d | false ↦ broken ]
 
+-- the check goes on where a test holds
 unfoldable pub test : Bool → Check → Check
 test b c = elim b [ true ↦ c | false ↦ broken ]
 
+-- the latest width is taken
 abbrev pub take1 : List ℕ → (ℕ → List ℕ → Check) → Check
 take1 [] f = broken
 take1 (x ∷ ws) f = f x ws
 
+-- the latest two are taken, the earlier first
 abbrev pub take2 : List ℕ → (ℕ → ℕ → List ℕ → Check) → Check
 take2 [] f = broken
 take2 (y ∷ []) f = broken
 take2 (y ∷ x ∷ ws) f = f x y ws
 
+-- the latest three are taken, the earliest first
 abbrev pub take3 : List ℕ → (ℕ → ℕ → ℕ → List ℕ → Check) → Check
 take3 [] f = broken
 take3 (y ∷ []) f = broken
@@ -55,6 +67,7 @@ take3 (y ∷ x ∷ []) f = broken
 take3 (y ∷ x ∷ c ∷ ws) f = f c x y ws
 
 module _ (t : Rules) where
+  -- an input port that the rule requires present
   unfoldable pub inputOk : ℕ → Bool
   inputOk i = ltb i (portCount (t .plan)) && leb (portAt (t .plan) i) (limits .width) && eqb (bitOf (t .present) i) 1
 
@@ -63,9 +76,11 @@ module _ (t : Rules) where
   outputOk d k w =
       ltb k (portCount (t .plan)) && leb 256 (portAt (t .plan) k) && eqb (bitOf (t .present) k) 1 && eqb (bitOf d k) 0 && eqb (bitOf (t .taken) k) 0 && leb w (portAt (t .plan) k - 256)
 
+  -- a memory, with its first cell and its size
   unfoldable pub memoryOk : ℕ → ℕ → ℕ → Bool
   memoryOk m f n = ltb m (memoryCount (t .plan)) && eqb f (cellsBefore (t .plan) m) && eqb n (memorySizeAt (t .plan) m)
 
+  -- the width of a slot, or that it was not kept
   unfoldable pub slotWidth : List ℕ → ℕ → ℕ
   slotWidth ls k = getD ls k unset
 
@@ -73,6 +88,7 @@ module _ (t : Rules) where
   unfoldable pub keepable : List ℕ → ℕ → Bool
   keepable ls k = elim (ltb k (limits .vals)) [ true ↦ eqb (slotWidth ls k) unset | false ↦ ltb k slots ]
 
+  -- one item over the widths that wait, those of the slots and the outputs assigned
   abbrev pub check1 : Item → List ℕ → List ℕ → ℕ → Check
   check1 (Const w lo hi) ws ls d = test (leb w (limits .expressionWidth) && ltb (lo + hi * 2 ^ 32) (2 ^ w)) (push w ws ls d)
   check1 (Port i) ws ls d = test (inputOk i) (push (portAt (t .plan) i) ws ls d)
@@ -90,10 +106,12 @@ module _ (t : Rules) where
   check1 (Write m f n) ws ls d = take2 ws (λ a x ws. test (memoryOk m f n && leb x (memoryWidthAt (t .plan) m)) (check ws ls d))
   check1 Bad ws ls d = broken
 
+  -- the same after a check
   unfoldable pub checkStep : Item → Check → Check
   checkStep i (check ws ls d) = check1 i ws ls d
   checkStep i broken = broken
 
+  -- all items in turn
   unfoldable pub checkAll : List Item → Check → Check
   checkAll [] c = c
   checkAll (i ∷ is) c = checkAll is (checkStep i c)
@@ -103,6 +121,7 @@ pub data Ended : Type 0 where
   ended : ℕ → Ended
   unended : Ended
 
+-- how a check ends
 unfoldable pub endOf : Check → Ended
 endOf (check [] ls d) = ended d
 endOf (check (w ∷ ws) ls d) = unended
@@ -115,6 +134,7 @@ module _ (p : List ℕ) where
   unfoldable pub portOk : ℕ → Bool
   portOk i = leb (portAt p i % 256) (limits .width) && ltb (portAt p i) 512
 
+  -- a width of 0 to 32, a size of 1 to 256, and with the memories before it 256 cells at most
   unfoldable pub memoryFits : ℕ → Bool
   memoryFits m = leb (memoryWidthAt p m) (limits .width) && leb 1 (memorySizeAt p m) && leb (memorySizeAt p m) (limits .size) && leb (cellsBefore p (suc m)) (limits .cells)
 
@@ -132,11 +152,13 @@ module _ (p : List ℕ) where
   apart a b zero = true
   apart a b (suc k) = apart a b k && eqb (bitOf a k * bitOf b k) 0
 
+  -- a rule's masks and the length of its code
   unfoldable pub ruleOk : ℕ → Bool
   ruleOk r =
       ltb (presentAt p r) (2 ^ portCount p) && ltb (absentAt p r) (2 ^ portCount p) && apart (presentAt p r) (absentAt p r) (portCount p) && ltb 0 (presentAt p r + absentAt p r)
       && eqb (lengthAt p r % 4) 0 && leb (codeBefore p (suc r)) (codeCount p)
 
+  -- each count within its limit, what each section holds, and nothing follows
   unfoldable pub sectionsOk : Bool
   sectionsOk =
       eqb (form p) 1 && leb 1 (portCount p) && leb (portCount p) (limits .ports) && allUpTo (portCount p) portOk
@@ -146,6 +168,7 @@ module _ (p : List ℕ) where
 
   -- ---- the rules: in turn the outputs of the earlier groups, and of this group with them; `r` is the next rule, `n` are the rules left of its group
 
+  -- a rule's code, from no width that waits and no slot kept
   unfoldable pub ruleCheck : ℕ → ℕ → Ended
   ruleCheck taken r = endOf (checkAll (record { plan = p; present = presentAt p r; taken = taken }) (decodeAll (codeAt p r)) (check [] (replicate slots unset) 0))
 
@@ -153,13 +176,16 @@ module _ (p : List ℕ) where
   unfoldable pub joined : ℕ → ℕ → ℕ
   joined a b = Rattle.language.specs.Values.orOf 16 a b
 
+  -- the rules that are left of a group: one after the other, with the outputs of earlier groups taken
   unfoldable pub groupCheck : ℕ → ℕ → ℕ → ℕ → Ended
   groupCheck taken mine r zero = ended mine
   groupCheck taken mine r (suc n) = elim (ruleCheck taken r) [ ended d ↦ groupCheck taken (joined mine d) (suc r) n | unended ↦ unended ]
 
+  -- the groups that are left: what one assigns is taken for the next
   unfoldable pub groupsCheck : ℕ → ℕ → ℕ → Bool
   groupsCheck taken g zero = true
   groupsCheck taken g (suc n) = elim (groupCheck taken taken (rulesBefore p g) (groupAt p g)) [ ended d ↦ groupsCheck d (suc g) n | unended ↦ false ]
 
+-- "A plan is sound if all limits, masks, kinds, widths and checks of 11 and 12 hold in it .."
 unfoldable pub soundOf : List ℕ → Bool
 soundOf p = elim (sectionsOk p) [ true ↦ groupsCheck p 0 0 (groupCount p) | false ↦ false ]

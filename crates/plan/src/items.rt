@@ -1,14 +1,49 @@
 // From four numbers to an item, and what kind of item it is.
 ghost use mathlib.Core.Path.{_≡_};
-ghost use Prim.Native.Nat.{_+_, _≤_};
+ghost use Prim.Native.Nat.{_+_, _*_, _^_, _≤_};
+ghost use mathlib.Core.List.{[], _∷_};
 ghost use lib.ListN.{length};
-ghost use Rattle.plan.specs.Items.{decode, unaryItem, binaryItem};
+ghost use lib.Seq.{sets};
+ghost use Rattle.plan.specs.Items.{unaryNumber, binaryNumber, encode, numbersOf, decode, unaryItem, binaryItem};
 ghost use Rattle.plan.specs.Items.{unused as Items·unused};
-ghost use Rattle.plan.specs.Steps.{itemAt, takesOf, actsOf};
+ghost use Rattle.plan.specs.Items.{itemAt, takesOf, actsOf};
 ghost use Rattle.plan.specs.declared.Item.the-variants.{Bad};
+use crate::Four;
 use crate::Item;
 use language::Binary;
 use language::Unary;
+
+// The operations of items, as docs/PLAN.md numbers them.
+const CONST: u32 = 0;
+
+const PORT: u32 = 1;
+
+const LET: u32 = 2;
+
+const CELL: u32 = 3;
+
+const RANGE: u32 = 4;
+
+const COPIES: u32 = 5;
+
+const BESIDE: u32 = 6;
+
+const UNARY: u32 = 7;
+
+const BINARY: u32 = 8;
+
+const CHOICE: u32 = 9;
+
+const ARM: u32 = 10;
+
+const KEEP: u32 = 11;
+
+const ASSIGN: u32 = 12;
+
+const WRITE: u32 = 13;
+
+// What is no item.
+const BAD: u32 = 14;
 
 // An operand that is not used is 0.
 fn unused(n: u32, i: Item) -> Item
@@ -70,20 +105,20 @@ pub fn item(op: u32, a: u32, b: u32, c: u32) -> Item
     ensures { λ r. ⌜ r ≡ decode op a b c ⌝ }
 {
     match op {
-        0 => Item::Const(a, b, c),
-        1 => unused(b, unused(c, Item::Port(a))),
-        2 => unused(b, unused(c, Item::Let(a))),
-        3 => Item::Cell(a, b, c),
-        4 => unused(c, Item::Range(a, b)),
-        5 => unused(c, Item::Copies(a, b)),
-        6 => unused(b, unused(c, Item::Beside(a))),
-        7 => unused(c, unary_item(a, b)),
-        8 => binary_item(a, b, c),
-        9 => unused(a, unused(b, unused(c, Item::Choice))),
-        10 => unused(c, Item::Arm(a, b)),
-        11 => unused(c, Item::Keep(a, b)),
-        12 => unused(b, unused(c, Item::Assign(a))),
-        13 => Item::Write(a, b, c),
+        CONST => Item::Const(a, b, c),
+        PORT => unused(b, unused(c, Item::Port(a))),
+        LET => unused(b, unused(c, Item::Let(a))),
+        CELL => Item::Cell(a, b, c),
+        RANGE => unused(c, Item::Range(a, b)),
+        COPIES => unused(c, Item::Copies(a, b)),
+        BESIDE => unused(b, unused(c, Item::Beside(a))),
+        UNARY => unused(c, unary_item(a, b)),
+        BINARY => binary_item(a, b, c),
+        CHOICE => unused(a, unused(b, unused(c, Item::Choice))),
+        ARM => unused(c, Item::Arm(a, b)),
+        KEEP => unused(c, Item::Keep(a, b)),
+        ASSIGN => unused(b, unused(c, Item::Assign(a))),
+        WRITE => Item::Write(a, b, c),
         _ => Item::Bad,
     }
 }
@@ -104,18 +139,18 @@ fn sound_item(op: u32, a: u32, b: u32, c: u32) -> Item
     // Operators, the most frequent, and constants are asked for apart: a branch is foreseen better than a jump among all.
     if op % 8 != 0 {
         return match op {
-            1 => Item::Port(a),
-            2 => Item::Let(a),
-            3 => Item::Cell(a, b, c),
-            4 => Item::Range(a, b),
-            5 => Item::Copies(a, b),
-            6 => Item::Beside(a),
-            7 => unary_item(a, b),
-            9 => Item::Choice,
-            10 => Item::Arm(a, b),
-            11 => Item::Keep(a, b),
-            12 => Item::Assign(a),
-            13 => Item::Write(a, b, c),
+            PORT => Item::Port(a),
+            LET => Item::Let(a),
+            CELL => Item::Cell(a, b, c),
+            RANGE => Item::Range(a, b),
+            COPIES => Item::Copies(a, b),
+            BESIDE => Item::Beside(a),
+            UNARY => unary_item(a, b),
+            CHOICE => Item::Choice,
+            ARM => Item::Arm(a, b),
+            KEEP => Item::Keep(a, b),
+            ASSIGN => Item::Assign(a),
+            WRITE => Item::Write(a, b, c),
             _ => Item::Bad,
         };
     }
@@ -154,4 +189,109 @@ pub fn takes(i: Item) -> usize
         Item::Write(_, _, _) => 2,
         Item::Bad => 0,
     }
+}
+
+fn wide(x: u32) -> u64
+    ensures { λ r. ⌜ r ≡ x ⌝ }
+{
+    x as u64
+}
+
+// A constant out of its two halves.
+pub fn constant(lo: u32, hi: u32) -> u64
+    ensures { λ r. ⌜ r ≡ lo + hi * 2 ^ 32 ⌝ }
+{
+    wide(lo) + wide(hi) * 4294967296
+}
+
+// The number of an operator before its operand.
+fn unary_number(u: Unary) -> u32
+    ensures { λ r. ⌜ r ≡ unaryNumber u ⌝ }
+{
+    match u {
+        Unary::Invert => 0,
+        Unary::Plus => 1,
+        Unary::Not => 2,
+        Unary::All => 3,
+        Unary::NotAll => 4,
+        Unary::Any => 5,
+        Unary::NotAny => 6,
+        Unary::Odd => 7,
+        Unary::NotOdd => 8,
+    }
+}
+
+// The number of an operator between its operands.
+fn binary_number(o: Binary) -> u32
+    ensures { λ r. ⌜ r ≡ binaryNumber o ⌝ }
+{
+    match o {
+        Binary::Multiply => 0,
+        Binary::Divide => 1,
+        Binary::Remainder => 2,
+        Binary::Add => 3,
+        Binary::Subtract => 4,
+        Binary::Left => 5,
+        Binary::Right => 6,
+        Binary::Less => 7,
+        Binary::AtMost => 8,
+        Binary::Greater => 9,
+        Binary::AtLeast => 10,
+        Binary::Equal => 11,
+        Binary::Unequal => 12,
+        Binary::And => 13,
+        Binary::NotAnd => 14,
+        Binary::Xor => 15,
+        Binary::NotXor => 16,
+        Binary::Or => 17,
+        Binary::NotOr => 18,
+        Binary::Both => 19,
+        Binary::Either => 20,
+    }
+}
+
+// The four numbers of an item.
+fn four(op: u32, a: u32, b: u32, c: u32) -> Four
+    ensures { λ r. ⌜ numbersOf r ≡ op ∷ a ∷ b ∷ c ∷ [] ⌝ }
+{
+    Four {
+        op: op,
+        a: a,
+        b: b,
+        c: c,
+    }
+}
+
+fn encoded(item: Item) -> Four
+    ensures { λ r. ⌜ numbersOf r ≡ encode item ⌝ }
+{
+    match item {
+        Item::Const(w, lo, hi) => four(CONST, w, lo, hi),
+        Item::Port(i) => four(PORT, i, 0, 0),
+        Item::Let(k) => four(LET, k, 0, 0),
+        Item::Cell(m, f, n) => four(CELL, m, f, n),
+        Item::Range(i, j) => four(RANGE, i, j, 0),
+        Item::Copies(n, w) => four(COPIES, n, w, 0),
+        Item::Beside(w) => four(BESIDE, w, 0, 0),
+        Item::Before(u, w) => four(UNARY, unary_number(u), w, 0),
+        Item::Between(o, m, n) => four(BINARY, binary_number(o), m, n),
+        Item::Choice => four(CHOICE, 0, 0, 0),
+        Item::Arm(n, k) => four(ARM, n, k, 0),
+        Item::Keep(k, w) => four(KEEP, k, w, 0),
+        Item::Assign(p) => four(ASSIGN, p, 0, 0),
+        Item::Write(m, f, n) => four(WRITE, m, f, n),
+        Item::Bad => four(BAD, 0, 0, 0),
+    }
+}
+
+// An item's numbers, at a place of the code.
+pub fn put(item: Item, code: &mut [u32], at: usize)
+    requires { ⌜ at + 4 ≤ length (now code) ⌝ }
+    ensures { λ r. ⌜ now (code .exit) ≡ sets (now (code .entry)) at (encode item) ⌝ }
+{
+    let f = encoded(item);
+    code[at] = f.op;
+    code[at + 1] = f.a;
+    code[at + 2] = f.b;
+    code[at + 3] = f.c;
 }

@@ -1,11 +1,12 @@
 // Where the numbers of a plan stand, and what stands there.
+use crate::MASK_BITS;
 ghost use mathlib.Core.Path.{_≡_};
 ghost use Prim.Native.Nat.{_+_, _*_, _^_, _≤_, _<_};
 ghost use lib.Dec.{ltb};
 ghost use lib.ListN.{length, getD};
 ghost use Rattle.language.specs.Values.{bitOf};
 ghost use Rattle.plan.specs.Layout.{portCount, portAt, memoriesFrom, memoryCount, memoryWidthAt, memorySizeAt, cellsBefore, groupsFrom, groupCount, groupAt, rulesBefore, rulesFrom, ruleCount, presentAt, absentAt, lengthAt, codeBefore, codeFrom, codeCount};
-ghost use Rattle.plan.specs.Steps.{sumOf};
+ghost use Rattle.plan.specs.Layout.{sumOf};
 
 // A number of 32 bits as a place: the one place that knows that none of them is too large for one.
 pub fn place(x: u32) -> usize
@@ -18,7 +19,7 @@ pub fn place(x: u32) -> usize
 pub fn bit(a: u32, k: u32) -> u32
     ensures { λ r. ⌜ r ≡ bitOf a k ⌝ }
 {
-    if k < 32 { (a >> k) % 2 } else { 0 }
+    if k < MASK_BITS { (a >> k) % 2 } else { 0 }
 }
 
 // A value fits a width.

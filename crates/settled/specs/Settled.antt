@@ -1,4 +1,4 @@
--- An actor with its names and types settled, as a list of items of six numbers: an operation, a place and four operands. Assumes nothing: these are definitions.
+-- An actor with its names and types settled, as a list of settled items (Form.antt). Assumes nothing: these are definitions.
 use mathlib.Core.Bool.{Bool, true, false}
 use mathlib.Core.List.{List, [], _∷_, _++_}
 use mathlib.Core.Option.{Option, none, some}
@@ -16,29 +16,7 @@ use Rattle.language.specs.Widths.{valueIn, portWidth, memoryWidth, typeWidth}
 use Rattle.language.specs.Sizes.{Setting, Let, letNamed, positionAt}
 use Rattle.language.specs.Meaning.{cellsBefore, cellsOf, portAt}
 use Rattle.plan.specs.Items.{unaryNumber, binaryNumber}
-use Rattle.sizing.specs.Effects.{BITS, BIG, AMOUNT, PLAIN, COPIES, READ, CELL, HELD, RANGE, START, JOINED, BESIDE, UNARY, BINARY, CHOICE, EITHER, SELECT, SELECTED, ARM, ASSIGN, WRITE, TYPED, VAL, RULED}
-
-abbrev pub PRESENT : ℕ
-PRESENT = 38
-
-abbrev pub RULE : ℕ
-RULE = 39
-
-abbrev pub OR : ℕ
-OR = 41
-
-abbrev pub MEMORY : ℕ
-MEMORY = 44
-
-abbrev pub SIGNED : ℕ
-SIGNED = 46
-
--- a position that is outside of every expression
-abbrev pub OUTSIDE : ℕ
-OUTSIDE = 4_294_967_295
-
-abbrev pub six : (op p a b c d : ℕ) → List ℕ
-six op p a b c d = op ∷ p ∷ a ∷ b ∷ c ∷ d ∷ []
+use Rattle.settled.specs.Form.{BITS, BIG, AMOUNT, PLAIN, COPIES, READ, CELL, HELD, RANGE, START, JOINED, BESIDE, UNARY, BINARY, CHOICE, EITHER, SELECT, SELECTED, ARM, ASSIGN, WRITE, TYPED, VAL, RULED, PRESENT, RULE, OR, MEMORY, SIGNED, OUTSIDE, six}
 
 -- a constant's value in two halves, where 64 bits hold it
 unfoldable pub amount : ℕ → ℕ → List ℕ

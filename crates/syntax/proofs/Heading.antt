@@ -8,7 +8,7 @@ use Prim.Native.String.{String}
 use native.Mathlib.Omega.{arith}
 use lib.ListN.{drop}
 use Rattle.language.specs.Text.{Name}
-use Rattle.language.specs.Words.{Word, name, span, nameByte}
+use Rattle.language.specs.Words.{Word, span, nameByte}
 use Rattle.language.specs.Tree.{Ty, number, environment, port, plus, minus, log, ceil, floor, most, entry, within, Declared, untyped, Port, Size, one, cells, Memory, spelledOf, memoryNames}
 use Rattle.language.specs.Reader.{Res, ok, bad, dry, bind, on, is, isNum, isName, expect, until, manyP, someP, commasP}
 use Rattle.language.specs.Parser.{isWay, portP, isStore, memoryP, nameP, actorP}
@@ -16,8 +16,8 @@ use Rattle.language.proofs.Laws.{Good, g-ok, g-bad, g-dry}
 use Rattle.language.proofs.Tests.{name-tells}
 use Rattle.language.proofs.Statements.{declared-good}
 use Rattle.words.proofs.Runs.{IsRun, AllRuns, noMore, more}
-use Rattle.syntax.specs.Tape.{item, MEMORY, flatT, flatD, flats, flatPort, flatSize, flatMemory, flatSigned, isTyped}
-use Rattle.syntax.specs.Heads.{Head, headP, flatHead}
+use Rattle.tape.specs.Tape.{item, MEMORY, flatT, flatD, flats, flatPort, flatSize, flatMemory, flatSigned, isTyped}
+use Rattle.head_reader.specs.Heads.{Head, headP, flatHead}
 use Rattle.syntax.specs.Marking.{placesOn, runsAt}
 use Rattle.syntax.specs.Read.{groupsP}
 use Rattle.syntax.proofs.Marked.{places-memory, places-other}

@@ -12,8 +12,8 @@ use Rattle.language.specs.Text.{same, among}
 use Rattle.language.specs.Words.{Word, bytes, span, nameByte}
 use Rattle.words.specs.Table.{wordOf, wordAt}
 use Rattle.words.proofs.Spelled.{same-eq}
-use Rattle.syntax.specs.Tape.{MEMORY, one-if}
-use Rattle.syntax.specs.Marks.{count, placeAt, longAt, valueAt, spelledAt, isP, isType, isMemory, Marked}
+use Rattle.tape.specs.Tape.{MEMORY, one-if}
+use Rattle.readers.specs.Marks.{count, placeAt, longAt, valueAt, spelledAt, isP, isType, isMemory, Marked}
 use Rattle.syntax.specs.Marking.{WordsHeld, spelledMark, nameMark, IsSpelled, Remarked, placesOn, runsAt}
 
 -- ---- the mark of a spelling

@@ -25,18 +25,18 @@ use Rattle.words.specs.declared.Place.the-variants.{At as AtPlace, Nowhere}
 use Rattle.words.proofs.Back.{word-at, until-all, left-is}
 use Rattle.words.proofs.Whole.{clash, length-table, room}
 use Rattle.words.proofs.Runs.{all-runs, few-words}
-use Rattle.syntax.specs.Tape.{flats, flatGroup, flatActor}
-use Rattle.syntax.specs.Marks.{count, placeAt, Marked}
-use Rattle.syntax.specs.Meets.{On, Moved, Agrees, read, fault as faulty, Closes}
-use Rattle.syntax.specs.Heads.{Head, headP, flatHead, actorOf, IsHead}
+use Rattle.tape.specs.Tape.{flats, flatGroup, flatActor}
+use Rattle.readers.specs.Marks.{count, placeAt, Marked}
+use Rattle.readers.specs.Meets.{On, Moved, Agrees, read, fault as faulty, Closes}
+use Rattle.head_reader.specs.Heads.{Head, headP, flatHead, actorOf, IsHead}
 use Rattle.syntax.specs.Marking.{WordsHeld, Taped, Remarked, placesOn, runsAt, memoriesOn}
 use Rattle.syntax.specs.Read.{treeSaid, wordsSaid, saidOf, treeAfter, wordsAfter, tapeAfter, Filed, Ready, Listed, groupsP, Judged, accepted, refused, IsEnding, IsTree, IsParsed, placeOr}
-use Rattle.syntax.specs.declared.Out.{Out}
-use Rattle.syntax.specs.declared.Out.the-variants.{At, Bad}
+use Rattle.readers.specs.declared.Out.{Out}
+use Rattle.readers.specs.declared.Out.the-variants.{At, Bad}
 use Rattle.syntax.specs.declared.Said.the-variants.{Tape, Refused}
-use Rattle.syntax.proofs.Laws.{on-more, on-as, moved-at, moved-bad, agrees-as}
-use Rattle.syntax.proofs.Spells.{until-at, until-bad}
-use Rattle.syntax.proofs.Operands.{s-unbrace}
+use Rattle.readers.proofs.Laws.{on-more, on-as, moved-at, moved-bad, agrees-as}
+use Rattle.readers.proofs.Spells.{until-at, until-bad}
+use Rattle.readers.proofs.Fixed.{s-unbrace}
 use Rattle.syntax.proofs.Marked.{held-again, marked-of, same-count}
 use Rattle.syntax.proofs.Heading.{head-memories, actor-parts}
 

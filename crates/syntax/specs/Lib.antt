@@ -1,10 +1,2 @@
-pub mod Tape
-pub mod Marks
-pub mod Meets
-pub mod States
-pub mod Rules
-pub mod Tails
-pub mod Heads
-pub mod Declares
 pub mod Marking
 pub mod Read

@@ -8,8 +8,8 @@ use lib.ListN.{length, getD, take, drop}
 use Rattle.language.specs.Text.{same, among}
 use Rattle.language.specs.Words.{Word, bytes, span, nameByte, wordsOf, words}
 use Rattle.words.specs.Table.{wordAt}
-use Rattle.syntax.specs.Tape.{MEMORY, one-if}
-use Rattle.syntax.specs.Marks.{count, placeAt, longAt, valueAt, spelledAt}
+use Rattle.tape.specs.Tape.{longest, mostItems, MEMORY, one-if}
+use Rattle.readers.specs.Marks.{countAt, count, placeAt, longAt, valueAt, spelledAt}
 
 -- the table w holds the words ws of a text, whatever the marks of its names
 pub record WordsHeld (text w : List ℕ) (ws : List Word) : Type 0 where
@@ -19,12 +19,12 @@ pub record WordsHeld (text w : List ℕ) (ws : List Word) : Type 0 where
 
 -- room for words and the number behind them; so many numbers on a tape
 pub record Tabled (w : List ℕ) : Type 0 where
-  pub few : count w ≤ 8192
-  pub long : length w ≡ 32769
+  pub few : count w ≤ mostItems
+  pub long : length w ≡ countAt + 1
 
 pub record Taped (t : List ℕ) (n : ℕ) : Type 0 where
-  pub few : n ≤ 24576
-  pub long : length t ≡ 24576
+  pub few : n ≤ longest
+  pub long : length t ≡ longest
 
 -- the mark of a name by its spelling: 1 for `p`, 2 for `type`, and 4 more where it is among the memories
 unfoldable pub spelledMark : List ℕ → ℕ

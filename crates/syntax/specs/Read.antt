@@ -15,13 +15,13 @@ use Rattle.language.specs.Reader.{Res, ok, until, Verdict, tree, fault, tired, 
 use Rattle.language.specs.Parser.{constraintP, parse}
 use Rattle.language.specs.Reading.{wordPlace}
 use Rattle.words.specs.Table.{tableOf}
-use Rattle.syntax.specs.Tape.{flatActor}
-use Rattle.syntax.specs.Marks.{count, placeAt, Marked}
-use Rattle.syntax.specs.Meets.{On, Moved}
-use Rattle.syntax.specs.Heads.{Head, flatHead, actorOf}
+use Rattle.tape.specs.Tape.{longest, mostItems, flatActor}
+use Rattle.readers.specs.Marks.{countAt, count, placeAt, Marked}
+use Rattle.readers.specs.Meets.{On, Moved}
+use Rattle.head_reader.specs.Heads.{Head, flatHead, actorOf}
 use Rattle.syntax.specs.Marking.{WordsHeld, Tabled}
-use Rattle.syntax.specs.declared.Out.{Out}
-use Rattle.syntax.specs.declared.Out.the-variants.{At, Bad}
+use Rattle.readers.specs.declared.Out.{Out}
+use Rattle.readers.specs.declared.Out.the-variants.{At, Bad}
 use Rattle.syntax.specs.declared.Said.{Said}
 use Rattle.syntax.specs.declared.Said.the-variants.{Tape, Refused}
 
@@ -54,7 +54,7 @@ tapeAfter text t = elim (leb (length text) (limits .actor)) [ false ↦ t | true
 
 -- what is answered has room on the tape
 abbrev pub Roomy : Said → Type 0
-Roomy (Tape n) = n ≤ 24576
+Roomy (Tape n) = n ≤ longest
 Roomy (Refused n p) = Unit {0}
 
 -- ---- the contracts of the parts
@@ -64,7 +64,7 @@ pub record Filed (text w : List ℕ) : Type 0 where
   pub ws : List Word
   pub held : WordsHeld text w ws
   pub table : Tabled w
-  pub short : length text ≤ 8192
+  pub short : length text ≤ mostItems
 
 pub record Ready (text w : List ℕ) : Type 0 where
   pub ws : List Word
@@ -78,9 +78,9 @@ pub record Listed (text w : List ℕ) (n : ℕ) : Type 0 where
   pub lexed : wordsOf text ≡ words ws
   pub many : n ≡ length ws
   pub before : List ℕ
-  pub long : length before ≡ 32769
+  pub long : length before ≡ countAt + 1
   pub holds : w ≡ sets before 0 (tableOf ws)
-  pub short : length text ≤ 8192
+  pub short : length text ≤ mostItems
 
 -- the groups after a head, up to the brace
 unfoldable pub groupsP : ℕ → Head → List Word → Res Actor

@@ -1,13 +1,19 @@
 // The marks of names: which are spelled `p` and `type`, and which are among the memories.
 // What comes in: the text, the table of its words, and a tape with the memories or an empty one. What goes out: the table, whose names are marked.
-use crate::Table;
-use crate::Tape;
-use crate::look::wide;
+use readers::COUNT;
+use readers::IS_MEMORY;
+use readers::IS_P;
+use readers::IS_TYPE;
+use readers::Table;
+use readers::Tape;
+use readers::wide;
+use tape::MEMORY;
+use words::kinds;
 ghost use mathlib.Core.Path.{_≡_};
 ghost use lib.ListN.{drop};
 ghost use Rattle.language.specs.Text.{same, among};
 ghost use Rattle.language.specs.Words.{span, nameByte};
-ghost use Rattle.syntax.specs.Marks.{count};
+ghost use Rattle.readers.specs.Marks.{count};
 ghost use Rattle.syntax.specs.Marking.{IsSpelled, nameMark, memoriesOn, Remarked, Tabled, Taped};
 
 // Whether a name stands at a place.
@@ -15,7 +21,7 @@ fn stands(text: &[u8], at: usize, name: &[u8]) -> bool
     ensures { λ r. ⌜ r ≡ same (span nameByte (drop at (now (text .entry)))) (now (name .entry)) ⌝ }
 {
     let n = words::run(text, at);
-    names::same_bytes(words::part(text, at, n), name)
+    spelling::same_bytes(words::part(text, at, n), name)
 }
 
 // Whether a name is among the memories on the first n numbers of the tape.
@@ -25,7 +31,7 @@ fn remembered(text: &[u8], tape: &Tape, n: usize, name: &[u8]) -> bool
 {
     let mut k = 0;
     while k + 2 < n {
-        if tape[k] == 44 {
+        if tape[k] == MEMORY {
             let at = wide(tape[k + 1]);
             if stands(text, at, name) {
                 return true;
@@ -40,11 +46,11 @@ fn remembered(text: &[u8], tape: &Tape, n: usize, name: &[u8]) -> bool
 fn spelled(name: &[u8]) -> u32
     ensures { λ r. ⌜ IsSpelled (now (name .entry)) r ⌝ }
 {
-    if names::same_bytes(b"p", name) {
-        return 1;
+    if spelling::same_bytes(b"p", name) {
+        return IS_P;
     }
-    if names::same_bytes(b"type", name) {
-        return 2;
+    if spelling::same_bytes(b"type", name) {
+        return IS_TYPE;
     }
     0
 }
@@ -56,7 +62,7 @@ fn value(text: &[u8], tape: &Tape, n: usize, name: &[u8]) -> u32
 {
     let m = spelled(name);
     if remembered(text, tape, n, name) {
-        m + 4
+        m + IS_MEMORY
     } else {
         m
     }
@@ -68,10 +74,10 @@ pub fn mark(text: &[u8], words: &mut Table, tape: &Tape, n: usize)
     requires { ⌜ Taped (now tape) n ⌝ }
     ensures { λ r. ⌜ Remarked (now (text .entry)) (memoriesOn (now (text .entry)) (now (tape .entry)) n) (count (now (words .entry))) (now (words .entry)) (now (words .exit)) ⌝ }
 {
-    let many = wide(words[32768]);
+    let many = wide(words[COUNT]);
     let mut i = 0;
     while i < many {
-        if words[4 * i] == 2 {
+        if words[4 * i] == kinds::NAME {
             let at = wide(words[4 * i + 1]);
             let long = wide(words[4 * i + 2]);
             let v = value(text, tape, n, words::part(text, at, long));

@@ -1,20 +1,24 @@
 // From the text to the tape: its words, their marks, the head, and what follows it.
-use crate::Out;
 use crate::Said;
-use crate::Table;
-use crate::Tape;
-use crate::heads::head;
-use crate::look::closed;
-use crate::look::place;
-use crate::look::wide;
 use crate::marks::mark;
-use crate::rules::constraint;
+use head_reader::head;
+use readers::COUNT;
+use readers::Out;
+use readers::Table;
+use readers::Tape;
+use readers::closed;
+use readers::place;
+use readers::wide;
+use rule_reader::constraint;
+use tape::LENGTH;
+use words::kinds;
 ghost use mathlib.Core.Path.{_≡_};
 ghost use Prim.Native.Nat.{_≤_};
 ghost use lib.ListN.{take};
 ghost use lib.Seq.{sets};
-ghost use Rattle.syntax.specs.Marks.{count};
-ghost use Rattle.syntax.specs.Meets.{Room};
+ghost use Rattle.tape.specs.Tape.{mostItems};
+ghost use Rattle.readers.specs.Marks.{count};
+ghost use Rattle.readers.specs.Meets.{Room};
 ghost use Rattle.syntax.specs.Marking.{Taped};
 ghost use Rattle.syntax.specs.Read.{Filed, IsEnding, IsParsed, IsTree, Listed, Ready, Roomy, placeOr, saidOf, tapeAfter, wordsAfter, wordsSaid};
 
@@ -26,9 +30,9 @@ fn ending(words: &Table, tape: &mut Tape, at: usize, n: usize) -> Out
     ensures { λ r. ⌜ IsEnding (now (words .entry)) at n (now (tape .entry)) r (now (tape .exit)) ⌝ }
 {
     let o = constraint(words, tape, at, n);
-    match closed(words, o, 39) {
+    match closed(words, o, kinds::UNBRACE) {
         Out::At(x, m) => {
-            let many = wide(words[32768]);
+            let many = wide(words[COUNT]);
             if x == many {
                 return Out::At(x, m);
             }
@@ -55,10 +59,10 @@ fn tree(text: &[u8], words: &mut Table, tape: &mut Tape) -> Out
 
 // The place of a word, or the end of the text where there is none.
 fn place_or(words: &Table, at: usize, end: u32) -> u32
-    requires { ⌜ count (now words) ≤ 8192 ⌝ }
+    requires { ⌜ count (now words) ≤ mostItems ⌝ }
     ensures { λ r. ⌜ r ≡ placeOr end (now (words .entry)) at ⌝ }
 {
-    let many = wide(words[32768]);
+    let many = wide(words[COUNT]);
     if at < many {
         return place(words, at);
     }
@@ -81,7 +85,7 @@ fn parsed(text: &[u8], words: &mut Table, tape: &mut Tape) -> Said
     requires { ⌜ Filed (now text) (now words) ⌝ }
     ensures { λ r. ⌜ IsParsed (now (text .entry)) (now (words .entry)) (now (tape .entry)) r (now (tape .exit)) ⌝ }
 {
-    let mut scratch = [0u32; 24576];
+    let mut scratch = [0u32; LENGTH];
     mark(text, words, &scratch, 0);
     match tree(text, words, &mut scratch) {
         Out::At(_, m) => {
@@ -106,7 +110,7 @@ fn listed(text: &[u8], words: &mut Table, n: u32, tape: &mut Tape) -> Said
     match words::left_out(words, wide(n)) {
         words::Place::At(p) => Said::Refused(4, p),
         words::Place::Nowhere => {
-            words[32768] = n;
+            words[COUNT] = n;
             parsed(text, words, tape)
         }
     }
@@ -121,7 +125,7 @@ pub fn read(text: &[u8], tape: &mut Tape) -> Said
     if BYTES < text.len() {
         return Said::Refused(1, language::Actor::BYTES);
     }
-    let mut table = [0u32; 32769];
+    let mut table = [0u32; COUNT + 1];
     match words::words(text, &mut table) {
         words::Found::Words(n) => listed(text, &mut table, n, tape),
         words::Found::Bad(p) => Said::Refused(3, p),

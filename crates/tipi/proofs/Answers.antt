@@ -25,7 +25,7 @@ use Rattle.language.specs.declared.Text.the-variants.{Actor as InActor, Binding
 use Rattle.bindings.proofs.Ranges.{Ranged, ranged}
 use Rattle.placed.proofs.Worded.{parsed-short}
 use Rattle.typing.proofs.Exists.{resolves}
-use Rattle.resolved.proofs.Whole.{every-all}
+use Rattle.row10_widths.proofs.Whole.{every-all}
 
 -- what rows 1 to 9 let through has widths, or has none
 abbrev Goes : Early → Type 0

@@ -23,15 +23,15 @@ use Rattle.language.specs.Reading.{Early, stopped, through, refused, accepted, 
 use Rattle.language.specs.declared.Text.{Text}
 use Rattle.language.specs.declared.Text.the-variants.{Actor as InActor}
 use Rattle.typing.proofs.Sentence.{exact-positive, width-sentence, width-only}
-use Rattle.cycle.specs.Machine.{refusedBy, cycleOf}
+use Rattle.cycle.specs.Cycle.{refusedBy, cycleOf}
 use Rattle.cycle.proofs.Answered.{cycle-answered, run-answered}
-use Rattle.planned.specs.PlanOf.{planOf}
-use Rattle.planned.specs.Theorems.{Planned}
-use Rattle.planned.proofs.Read.{reads-accepted}
-use Rattle.planned.proofs.Theorems.{reads-planned}
-use Rattle.planned.proofs.Alike.{cycles-alike}
+use Rattle.plan_of.specs.PlanOf.{planOf}
+use Rattle.plan_of.specs.Theorems.{Planned}
+use Rattle.plan_of.proofs.Read.{reads-accepted}
+use Rattle.plan_of.proofs.Theorems.{reads-planned}
+use Rattle.plan_of.proofs.Alike.{cycles-alike}
 use Rattle.lines.proofs.Placed.{line-around}
-use Rattle.making.specs.Made as Making
+use Rattle.row13_plan.specs.Made as Making
 use Rattle.tipi.specs.Told.{madeOf, answerOf, tableAfter, Read}
 use Rattle.tipi.specs.Demands.{RefusedCycle, Demand1, Demand2, HasWidth, Fulfils, LeastWidths, DemandWidths, Means, Demand3, DemandLine, Demands}
 use Rattle.tipi.specs.declared.Answer.{Answer}

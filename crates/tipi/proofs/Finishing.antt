@@ -10,7 +10,7 @@ use lib.ListN.{length, take, drop, getD, replicate, length-append, length-take}
 use lib.Seq.{take-at}
 use Rattle.language.specs.Text.{earliest}
 use Rattle.language.specs.Words.{Word}
-use Rattle.language.specs.Tree.{Rule, Actor}
+use Rattle.language.specs.Tree.{Actor}
 use Rattle.language.specs.Bindings.{Bindings}
 use Rattle.language.specs.Widths.{Least, Resolved}
 use Rattle.language.specs.Parts.{each}
@@ -24,26 +24,31 @@ use Rattle.language.proofs.Main.{grammar-correct}
 use Rattle.words.specs.Found.{placeTold}
 use Rattle.words.specs.declared.Place.{Place}
 use Rattle.words.specs.declared.Place.the-variants.{At, Nowhere}
-use Rattle.planned.specs.PlanOf.{planOf, ruleCode}
-use Rattle.planned.specs.Accepted.{Accepted, Grammatical}
-use Rattle.planned.proofs.Grammar.{actor-grammatical}
-use Rattle.planned.proofs.Read.{words-of-text}
+use Rattle.plan_of.specs.PlanOf.{planOf, ruleCode}
+use Rattle.plan_of.specs.Accepted.{Accepted}
+use Rattle.plan_of.proofs.Grammar.{actor-grammatical}
+use Rattle.plan_of.proofs.Read.{words-of-text}
 use Rattle.settled.specs.Settled.{settledOf}
-use Rattle.sizing.specs.Steps.{State, walk, begin}
-use Rattle.sized.specs.Statement.{Measured, Sized}
-use Rattle.sized.proofs.Main.{sized}
-use Rattle.making.specs.Made.{Item, itemsOf, picked, maskUpTo, ruleNumbers, planIn, RULE}
-use Rattle.making.specs.Made as Making
-use Rattle.making.specs.Made.{tableAfter as tableWith}
-use Rattle.making.specs.declared.Answer as Made·answer
-use Rattle.making.specs.declared.Answer.the-variants.{Plan as IsPlan, NoRoom}
-use Rattle.made.proofs.Main.{made}
-use Rattle.settling.specs.Walk.{aroundOf, settledOn}
-use Rattle.settling.proofs.Whole.{walked-few, settled-is}
-use Rattle.resolved.specs.Row.{Settles, Fits, told}
-use Rattle.resolved.specs.declared.Answer as Resolved·answer
-use Rattle.resolved.specs.declared.Answer.the-variants.{Widths, Nothing}
-use Rattle.tipi.specs.Told.{answerOf, tableAfter, madeOf, Told, Follows, goes, After, Heard, Settled, lateOf, sums}
+use Rattle.row11_sizes.specs.Steps.{State, walk, begin}
+use Rattle.plan_of.specs.Row11.{Measured}
+use Rattle.plan_of.proofs.Row11.{sized}
+use Rattle.plan_of.proofs.Facts.{limit-facts}
+use Rattle.plan_of.proofs.Faultless.{few}
+use Rattle.row12_presence.specs.Walk as Presence
+use Rattle.row12_presence.proofs.Whole.{earliest-fault}
+use Rattle.settled.specs.Form.{RULE}
+use Rattle.row13_plan.specs.Made.{Item, itemsOf, picked, maskUpTo, ruleNumbers, planIn}
+use Rattle.row13_plan.specs.Made as Making
+use Rattle.row13_plan.specs.Made.{tableAfter as tableWith}
+use Rattle.row13_plan.specs.declared.Answer as Made·answer
+use Rattle.row13_plan.specs.declared.Answer.the-variants.{Plan as IsPlan, NoRoom}
+use Rattle.plan_of.proofs.Row13.{made}
+use Rattle.settle.specs.Walk.{aroundOf, settledOn}
+use Rattle.settle.proofs.Whole.{walked-few, settled-is}
+use Rattle.row10_widths.specs.Row.{Settles, Fits, told}
+use Rattle.row10_widths.specs.declared.Answer as Resolved·answer
+use Rattle.row10_widths.specs.declared.Answer.the-variants.{Widths, Nothing}
+use Rattle.tipi.specs.Told.{answerOf, tableAfter, madeOf, Told, goes, After, Heard, Settled, lateOf, sums}
 use Rattle.tipi.specs.declared.Answer.{Answer}
 use Rattle.tipi.specs.declared.Answer.the-variants.{Plan, Refused}
 use Rattle.tipi.proofs.Judging.{no-fault}
@@ -139,12 +144,9 @@ told-refused x {n} {p} before e = subst (λ (y : Reading.Answer). Told y (Refuse
 abbrev pub walkedOver : List ℕ → ℕ → State
 walkedOver items many = walk begin (take (6 * many) items)
 
-module _ {text t items : List ℕ} {n many : ℕ} {ws : List Word} {s : Setting} (h : Settled text t n items many ws s) where
-  grammatical : Grammatical ws (s .actor)
-  grammatical = actor-grammatical (grammar-correct .sound ws (s .actor) (h .tells .parses)) (words-of-text text ws (h .tells .lexed) .1)
-
+module _ {items : List ℕ} {many : ℕ} {ws : List Word} {s : Setting} (h : Settled items many ws s) where
   measured : Measured ws s
-  measured = record { grammatical = grammatical; limited = h .passed .limited; least = h .least }
+  measured = record { grammatical = h .grammatical; limited = h .passed .limited; least = h .least }
 
   -- the walk over the items is the walk over the setting's
   same : walkedOver items many ≡ walk begin (settledOf s)
@@ -153,13 +155,19 @@ module _ {text t items : List ℕ} {n many : ℕ} {ws : List Word} {s : Setting}
   sizes-told : {r : Place} → r ≡ walkedOver items many .first → r ≡ placeTold (earliest (sizeFaults s))
   sizes-told e = e ∙ ap (λ (w : State). w .first) same ∙ sized ws s measured .first
 
+  few-ports : length (s .actor .signature) ≤ 32
+  few-ports = let e = few 16 (s .actor .signature) (limit-facts ws (s .actor) (h .passed .limited) .0) in omega arith
+
+  presence-told : {r : Place} → r ≡ Presence.walk Presence.begin (take (6 * many) items) Nowhere → r ≡ placeTold (earliest (presenceFaults (s .actor)))
+  presence-told e = e ∙ ap (λ (l : List ℕ). Presence.walk Presence.begin l Nowhere) (h .holds) ∙ earliest-fault s few-ports (h .passed .names)
+
   module _ {x : Place} (e : x ≡ walkedOver items many .first) where
     pub sizes-refused : {p : ℕ} (before : List ℕ) → x ≡ At p → Told (lateOf s) (Refused 11 InActor p) before before
     sizes-refused before f = told-refused (lateOf s) before (late-told s ∙ ap (λ (q : Place). lateBy s q (placeTold (earliest (presenceFaults (s .actor))))) (sym (sizes-told e) ∙ f))
 
-    module _ {y : Place} (g : y ≡ placeTold (earliest (presenceFaults (s .actor)))) (f : x ≡ Nowhere) where
+    module _ {y : Place} (g : y ≡ Presence.walk Presence.begin (take (6 * many) items) Nowhere) (f : x ≡ Nowhere) where
       told-late : lateOf s ≡ lateBy s Nowhere y
-      told-late = late-told s ∙ ap₂ (lateBy s) (sym (sizes-told e) ∙ f) (sym g)
+      told-late = late-told s ∙ ap₂ (lateBy s) (sym (sizes-told e) ∙ f) (sym (presence-told g))
 
       pub presence-refused : {p : ℕ} (before : List ℕ) → y ≡ At p → Told (lateOf s) (Refused 12 InActor p) before before
       presence-refused before k = told-refused (lateOf s) before (told-late ∙ ap (lateBy s Nowhere) k)
@@ -174,7 +182,7 @@ module _ {text t items : List ℕ} {n many : ℕ} {ws : List Word} {s : Setting}
           settled = h .settled;
           least = h .least;
           sized = no-fault (sizeFaults s) (sizes-told e) f;
-          present = no-fault (presenceFaults (s .actor)) g k;
+          present = no-fault (presenceFaults (s .actor)) (presence-told g) k;
         }
 
         told-accepted : lateOf s ≡ accepted s
@@ -204,7 +212,7 @@ module _ {text t items : List ℕ} {n many : ℕ} {ws : List Word} {s : Setting}
               ap₂ (λ (m l : List ℕ). planIn (itemsOf (take (6 * many) items)) m l) (ap (take (sums lengths)) u ∙ take-at (walkedOver items many .code) c (sums lengths) (sym whole-sum)) padded
               ∙ padded-plan (itemsOf (take (6 * many) items)) (walkedOver items many .code) (walkedOver items many .lengths) (32 - length (walkedOver items many .lengths))
               ∙ ap (λ (l : List ℕ). planIn (itemsOf l) (walk begin l .code) (walk begin l .lengths)) (h .holds)
-              ∙ made ws s is-accepted grammatical
+              ∙ made ws s is-accepted (h .grammatical)
 
           pub made-told : {r : Answer} {before after : List ℕ} → r ≡ madeOf (planIn (itemsOf (take (6 * many) items)) (take (sums lengths) code) lengths) before
               → after ≡ tableWith (planIn (itemsOf (take (6 * many) items)) (take (sums lengths) code) lengths) before → Told (lateOf s) r before after
@@ -219,10 +227,10 @@ module _ (text t : List ℕ) (n : ℕ) (btext table : List ℕ) (k m : ℕ) (wid
   settled-count = let w = walked-few (aroundOf text t (n / 3) btext table k m widths) t (n / 3) in (omega (arith, w .1), omega (arith, w .0))
 
   pub settled-held : {items : List ℕ} {ws : List Word} {a : Actor} {b : Bindings} → take r items ≡ settledOn text t (n / 3) btext table k m widths → n ≤ length t → Heard text t n btext table k m ws a b → Least a b widths
-      → Settled text t n items (r / 6) ws (record { actor = a; bindings = b; widths = widths })
-  settled-held {items} is low h least =
+      → Settled items (r / 6) ws (record { actor = a; bindings = b; widths = widths })
+  settled-held {items} {ws} {a} is low h least =
       record {
-        tells = h .asked .tells;
+        grammatical = actor-grammatical (grammar-correct .sound ws a (h .asked .tells .parses)) (words-of-text text ws (h .asked .tells .lexed) .1);
         passed = h .asked .passed;
         known = h .known;
         settled = h .settled;

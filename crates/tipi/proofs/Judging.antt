@@ -18,7 +18,7 @@ use Rattle.language.specs.declared.Text.the-variants.{Actor as InActor, Binding
 use Rattle.words.specs.Found.{placeTold}
 use Rattle.words.specs.declared.Place.{Place}
 use Rattle.words.specs.declared.Place.the-variants.{At, Nowhere}
-use Rattle.resolved.specs.Row.{Passed}
+use Rattle.row10_widths.specs.Row.{Passed}
 use Rattle.tipi.specs.Told.{answerOf, tableAfter, Told, Follows, stops, After, verdictOf, TextsHeld, Heard}
 use Rattle.tipi.specs.declared.Answer.{Answer}
 use Rattle.tipi.specs.declared.Answer.the-variants.{Plan, Refused}

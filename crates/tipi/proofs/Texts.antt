@@ -20,16 +20,16 @@ use Rattle.language.specs.Reading as Reading
 use Rattle.language.specs.Reading.{Early, stopped, through, refused, Reads, reads-early, reads-late, row, wordPlace, judged, parsed, worded, early}
 use Rattle.language.specs.declared.Text.{Text}
 use Rattle.language.specs.declared.Text.the-variants.{Actor as InActor, Bindings as InBindings}
-use Rattle.syntax.specs.Tape.{flatActor}
+use Rattle.tape.specs.Tape.{flatActor}
 use Rattle.syntax.specs.Read.{treeSaid, wordsSaid, saidOf, treeAfter, wordsAfter, tapeAfter, Roomy}
 use Rattle.syntax.specs.declared.Said.{Said}
 use Rattle.syntax.specs.declared.Said.the-variants.{Tape as IsTape, Refused as IsRefused}
 use Rattle.bindings.specs.Table as Table
 use Rattle.bindings.specs.declared.Answer as Bindings·answer
 use Rattle.bindings.specs.declared.Answer.the-variants.{Bound as IsBound, Wrong, NoRoom}
-use Rattle.known.specs.Row.{Tells}
-use Rattle.binds.specs.Lines.{Binds}
-use Rattle.binds.proofs.Tables.{Filled, read-fills}
+use Rattle.tape.specs.Row.{Tells}
+use Rattle.row09_bindings.specs.Lines.{Binds}
+use Rattle.row09_bindings.proofs.Tables.{Filled, read-fills}
 use Rattle.tipi.specs.Told.{answerOf, tableAfter, Told, Follows, stops, goes, After, TextsHeld, Read}
 use Rattle.tipi.specs.declared.Answer.{Answer}
 use Rattle.tipi.specs.declared.Answer.the-variants.{Plan, Refused}

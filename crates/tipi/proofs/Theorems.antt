@@ -18,10 +18,10 @@ use Rattle.language.specs.Reading as Reading
 use Rattle.language.specs.Reading.{Early, stopped, through, refused, accepted, Reads, reads-early, reads-late, early, late}
 use Rattle.language.specs.declared.Text.the-variants.{Actor as InActor}
 use Rattle.typing.proofs.Bridge.{one-resolved}
-use Rattle.planned.specs.PlanOf.{planOf}
-use Rattle.planned.specs.Theorems.{Planned}
-use Rattle.planned.proofs.Theorems.{reads-planned}
-use Rattle.making.specs.Made as Making
+use Rattle.plan_of.specs.PlanOf.{planOf}
+use Rattle.plan_of.specs.Theorems.{Planned}
+use Rattle.plan_of.proofs.Theorems.{reads-planned}
+use Rattle.row13_plan.specs.Made as Making
 use Rattle.tipi.specs.Told.{madeOf, answerOf, tableAfter, Told, Read}
 use Rattle.tipi.specs.declared.Answer.{Answer}
 use Rattle.tipi.specs.declared.Answer.the-variants.{Plan, Refused}

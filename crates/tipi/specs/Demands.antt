@@ -29,12 +29,12 @@ use Rattle.language.specs.declared.Text.{Text}
 use Rattle.language.specs.declared.Text.the-variants.{Actor as InActor}
 use Rattle.plan.specs.Layout.{portCount, portAt, memoryWidthAt}
 use Rattle.plan.specs.Sound.{soundOf}
-use Rattle.cycle.specs.Machine.{cycleOf}
+use Rattle.cycle.specs.Cycle.{cycleOf}
 use Rattle.cycle.specs.Turn.{outcome}
 use Rattle.cycle.specs.Run.{result, runOf, cyclesOf, turnsIn, leftBy}
 use Rattle.placed.specs.Placed.{Every}
-use Rattle.planned.specs.PlanOf.{planOf}
-use Rattle.planned.specs.Theorems.{RunTables, SameGiven, Alike}
+use Rattle.plan_of.specs.PlanOf.{planOf}
+use Rattle.plan_of.specs.Theorems.{RunTables, SameGiven, Alike}
 use Rattle.lines.specs.Bounds.{ofText, LineStands, IsLineAt}
 use Rattle.tipi.specs.Told.{Read}
 use Rattle.tipi.specs.declared.Answer.{Answer}

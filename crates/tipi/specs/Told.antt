@@ -16,12 +16,13 @@ use Rattle.language.specs.Reading as Reading
 use Rattle.language.specs.Reading.{Early, stopped, through, refused, accepted, Reads, late}
 use Rattle.language.specs.declared.Text.{Text}
 use Rattle.language.specs.declared.Text.the-variants.{Actor as InActor}
-use Rattle.planned.specs.PlanOf.{planOf}
-use Rattle.known.specs.Row.{Tells}
-use Rattle.binds.specs.Lines.{Binds}
-use Rattle.resolved.specs.Row.{Passed, Asked}
+use Rattle.plan_of.specs.PlanOf.{planOf}
+use Rattle.plan_of.specs.Accepted.{Grammatical}
+use Rattle.tape.specs.Row.{Tells}
+use Rattle.row09_bindings.specs.Lines.{Binds}
+use Rattle.row10_widths.specs.Row.{Passed, Asked}
 use Rattle.settled.specs.Settled.{settledOf}
-use Rattle.making.specs.Made.{tableAfter as tableWith}
+use Rattle.row13_plan.specs.Made.{tableAfter as tableWith}
 use Rattle.tipi.specs.declared.Answer.{Answer}
 use Rattle.tipi.specs.declared.Answer.the-variants.{Plan, Refused}
 use Rattle.tipi.specs.declared.rows.Verdict.{Verdict}
@@ -79,8 +80,8 @@ pub record Heard (text t : List ℕ) (n : ℕ) (btext table : List ℕ) (k m : �
   pub settled : unsettled a b ≡ []
 
 -- the first items of a table are those of a setting with no fault before row 11
-pub record Settled (text t : List ℕ) (n : ℕ) (items : List ℕ) (many : ℕ) (ws : List Word) (s : Setting) : Type 0 where
-  pub tells : Tells text t n ws (s .actor)
+pub record Settled (items : List ℕ) (many : ℕ) (ws : List Word) (s : Setting) : Type 0 where
+  pub grammatical : Grammatical ws (s .actor)
   pub passed : Passed ws (s .actor)
   pub known : strangers (s .actor) (s .bindings) ≡ []
   pub settled : unsettled (s .actor) (s .bindings) ≡ []

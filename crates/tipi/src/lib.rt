@@ -13,6 +13,7 @@ use plans::planned;
 use rows::Verdict;
 use rows::first;
 use syntax::Said;
+ghost use Rattle.tape.specs.Tape.{longest};
 ghost use mathlib.Core.List.{List};
 ghost use Prim.Native.Nat.{_+_, _*_, _≤_};
 ghost use lib.ListN.{length};
@@ -22,7 +23,7 @@ ghost use Rattle.language.specs.Tree.{Actor};
 ghost use Rattle.language.specs.Bindings.{Bindings};
 ghost use Rattle.language.specs.Reading.{judged as Reading·judged};
 ghost use Rattle.language.specs.Reading.{worded as Reading·worded};
-ghost use Rattle.binds.specs.Lines.{Binds};
+ghost use Rattle.row09_bindings.specs.Lines.{Binds};
 ghost use Rattle.tipi.specs.Told.{Read, After, TextsHeld};
 
 // The plan's length, or a refusal with its number, its text and its place.
@@ -42,7 +43,7 @@ fn judged(
     m: usize,
     plan: &mut [u32],
 ) -> Answer
-    requires { ⌜ (n ≤ length (now tape)) × (n ≤ 24576) × (3 * (k + m) ≤ length (now table)) ⌝ }
+    requires { ⌜ (n ≤ length (now tape)) × (n ≤ longest) × (3 * (k + m) ≤ length (now table)) ⌝ }
     requires { ⌜ ((ws : List Word) × (a : Actor) × (b : Bindings) × TextsHeld (now text) (now tape) n (now btext) (now table) k m ws a b) ⌝ }
     ensures { λ r. ⌜ ((ws : List Word) (a : Actor) (b : Bindings) → TextsHeld (now (text .entry)) (now (tape .entry)) n (now (btext .entry)) (now (table .entry)) k m ws a b → After (Reading·judged ws a b) r (now (plan .entry)) (now (plan .exit))) ⌝ }
 {
@@ -58,7 +59,7 @@ fn worded(text: &[u8], btext: &[u8], table: &[u32], k: usize, m: usize, plan: &m
     requires { ⌜ ((b : Bindings) × Binds (now btext) (now table) k m b) ⌝ }
     ensures { λ r. ⌜ ((b : Bindings) → Binds (now (btext .entry)) (now (table .entry)) k m b → After (Reading·worded (now (text .entry)) b) r (now (plan .entry)) (now (plan .exit))) ⌝ }
 {
-    let mut tape = [0u32; 24576];
+    let mut tape = [0u32; tape::LENGTH];
     match syntax::read(text, &mut tape) {
         Said::Tape(n) => judged(text, &tape, n as usize, btext, table, k, m, plan),
         Said::Refused(row, place) => Answer::Refused(row, Text::Actor, place),
@@ -75,7 +76,7 @@ pub fn read(text: &[u8], bindings: &[u8], plan: &mut [u32]) -> Answer
     if (language::Bindings::BYTES as usize) < bindings.len() {
         return Answer::Refused(1, Text::Bindings, language::Bindings::BYTES);
     }
-    let mut table = [0u32; 96];
+    let mut table = [0u32; bindings::NUMBERS];
     match bindings::read(bindings, &mut table) {
         bindings::Answer::Bound(k, m) => worded(
             text,

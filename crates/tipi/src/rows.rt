@@ -31,23 +31,23 @@ pub fn first(
     requires { ⌜ ((ws : List Word) × (a : Actor) × (b : Bindings) × TextsHeld (now text) (now tape) n (now btext) (now table) k m ws a b) ⌝ }
     ensures { λ r. ⌜ ((ws : List Word) (a : Actor) (b : Bindings) → TextsHeld (now (text .entry)) (now (tape .entry)) n (now (btext .entry)) (now (table .entry)) k m ws a b → r ≡ verdictOf (judged ws a b)) ⌝ }
 {
-    match known::fault(text, tape, n) {
+    match row06_names::fault(text, tape, n) {
         Place::At(p) => return Verdict::Stopped(6, Text::Actor, p),
         Place::Nowhere => {}
     }
-    match limits::fault(text, tape, n) {
+    match row07_limits::fault(text, tape, n) {
         Place::At(p) => return Verdict::Stopped(7, Text::Actor, p),
         Place::Nowhere => {}
     }
-    match type_rules::fault(tape, n) {
+    match row08_types::fault(tape, n) {
         Place::At(p) => return Verdict::Stopped(8, Text::Actor, p),
         Place::Nowhere => {}
     }
-    match binds::strangers(text, tape, n, btext, table, k, m) {
+    match row09_bindings::strangers(text, tape, n, btext, table, k, m) {
         Place::At(p) => return Verdict::Stopped(9, Text::Bindings, p),
         Place::Nowhere => {}
     }
-    match binds::unsettled(text, tape, n, btext, table, k, m) {
+    match row09_bindings::unsettled(text, tape, n, btext, table, k, m) {
         Place::At(p) => Verdict::Stopped(9, Text::Actor, p),
         Place::Nowhere => Verdict::Through,
     }

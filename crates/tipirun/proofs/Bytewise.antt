@@ -12,13 +12,14 @@ use Rattle.language.specs.Reading.{Answer}
 use Rattle.tipi.specs.Told.{answerOf}
 use Rattle.tipi.specs.declared.Answer.{Answer as Told}
 use Rattle.tipi.specs.declared.Answer.the-variants.{Plan, Refused}
-use Rattle.tipirun.specs.declared.state.Stage.{Stage}
-use Rattle.tipirun.specs.declared.state.Stage.the-variants.{ActorCount, Actor, BindingsCount, Bindings, CycleCount, Line, Through, Wrong, Stopped}
-use Rattle.tipirun.specs.declared.state.State.{State}
-use Rattle.tipirun.specs.Reading.{startOf, wrongOf, takesOf, longerOf, countByte, actorByte, bindingsByte, judgedOf}
+use Rattle.figures.specs.declared.Stage.{Stage}
+use Rattle.figures.specs.declared.Stage.the-variants.{ActorCount, Actor, BindingsCount, Bindings, CycleCount, Line, Through, Wrong, Stopped}
+use Rattle.figures.specs.declared.State.{State}
+use Rattle.figures.specs.States.{startOf, wrongOf, takesOf, longerOf}
+use Rattle.tipirun.specs.Reading.{countByte, actorByte, bindingsByte, judgedOf}
 use Rattle.tipirun.specs.Lines.{Lined, Left, lineByte}
 use Rattle.tipirun.specs.Machine.{Machine, machine, lined, stated, movedAt, movedOf, passedAt, passedOf, planPassed, passedBy, Judges, StagePassed, TablesStand, Stepped, Steps, unwritten, preceded, Runs, stays, goes, Feeds}
-use Rattle.tipirun.proofs.Bytes.{sets-append}
+use Rattle.figures.proofs.Bytes.{sets-append}
 
 abbrev placeOf : State → ℕ
 placeOf s = s .at

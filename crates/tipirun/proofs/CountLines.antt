@@ -12,12 +12,14 @@ use Rattle.language.specs.Words.{digit}
 use Rattle.language.specs.Bindings.{Got, got, lost, after, byte, digitsFrom, numberUpTo}
 use Rattle.language.specs.Worked.{isBad, anyNumber}
 use Rattle.language.specs.Reading.{Answer}
-use Rattle.tipirun.specs.declared.state.Stage.{Stage}
-use Rattle.tipirun.specs.declared.state.Stage.the-variants.{ActorCount, Actor, BindingsCount, Bindings, CycleCount, Line, Wrong}
-use Rattle.tipirun.specs.declared.state.State.{State}
-use Rattle.tipirun.specs.Reading.{startOf, wrongOf, takesOf, longerOf, countByte}
+use Rattle.figures.specs.declared.Stage.{Stage}
+use Rattle.figures.specs.declared.Stage.the-variants.{ActorCount, Actor, BindingsCount, Bindings, CycleCount, Line, Wrong}
+use Rattle.figures.specs.declared.State.{State}
+use Rattle.figures.specs.States.{startOf, wrongOf, takesOf, longerOf}
+use Rattle.tipirun.specs.Reading.{countByte}
 use Rattle.tipirun.specs.Machine.{Machine, machine, stated, movedAt, movedOf, passedAt, atBindings, passedBy, Judges, Stepped, unwritten, endedAt, endedOf}
-use Rattle.tipirun.proofs.Counting.{takes-none, takes-first, takes-next, count-takes, count-unbegun, count-wrong, count-ends}
+use Rattle.figures.proofs.Counting.{takes-none, takes-first, takes-next}
+use Rattle.tipirun.proofs.Counting.{count-takes, count-unbegun, count-wrong, count-ends}
 use Rattle.tipirun.proofs.Stages.{ended-bad}
 use Rattle.tipirun.proofs.Onward.{From, More, more, none, Quiet, step-to, on-to, closed, wrong-closed}
 

@@ -9,9 +9,9 @@ use lib.Dec.{eqb, ltb}
 use lib.ListN.{length, getD, take, drop}
 use Rattle.language.specs.Worked.{decimal, line}
 use Rattle.plan.specs.Layout.{portAt}
-use Rattle.tipirun.specs.Written.{Wrote, blanked}
+use Rattle.figures.specs.Written.{Wrote, blanked}
 use Rattle.tipirun.specs.Lines.{portsOf, outputOf, outputsFrom, shownOf}
-use Rattle.tipirun.proofs.Bytes.{line-is, named, nothing, Rest}
+use Rattle.figures.proofs.Bytes.{line-is, named, nothing, Rest}
 
 pub output-none : (l : List ℕ) (at kind v : ℕ) → kind < 256 → Wrote l at (outputOf kind v) 21 at l
 unfolding outputOf

@@ -9,9 +9,9 @@ use Rattle.language.specs.Reading.{Answer, Reads}
 use Rattle.tipi.specs.Told.{answerOf, tableAfter}
 use Rattle.tipi.proofs.Answers.{answers}
 use Rattle.tipi.proofs.Theorems.{reads-once}
-use Rattle.tipirun.specs.declared.state.Stage.{Stage}
-use Rattle.tipirun.specs.declared.state.Stage.the-variants.{ActorCount, Actor, BindingsCount, Bindings, CycleCount, Line, Through, Wrong, Stopped}
-use Rattle.tipirun.specs.declared.state.State.{State}
+use Rattle.figures.specs.declared.Stage.{Stage}
+use Rattle.figures.specs.declared.Stage.the-variants.{ActorCount, Actor, BindingsCount, Bindings, CycleCount, Line, Through, Wrong, Stopped}
+use Rattle.figures.specs.declared.State.{State}
 use Rattle.tipirun.specs.Machine.{Machine, movedOf, passedAt, passedOf, planPassed, passedBy, atBindings, whole, Judges, Stepped, unwritten, preceded, Runs, stays, goes, started, endedOf, Prints, prints}
 
 -- where the texts are not read now, nothing goes by what they would be read as

@@ -9,24 +9,16 @@ use lib.Dec.{eqb, ltb}
 use lib.ListN.{length, getD, take, drop}
 use lib.Seq.{sets}
 use Rattle.language.specs.Meaning.{Outcome}
-use Rattle.cycle.specs.Machine.{cycleOf}
+use Rattle.cycle.specs.Cycle.{cycleOf}
 use Rattle.cycle.specs.Turn.{outcome}
-use Rattle.tipirun.specs.declared.state.Stage.{Stage}
-use Rattle.tipirun.specs.declared.state.Stage.the-variants.{Line}
-use Rattle.tipirun.specs.declared.state.State.{State}
-use Rattle.tipirun.specs.Reading.{wrongOf, portOf, takesOf, staysOf, lineTakes, longerOf}
-use Rattle.tipirun.specs.Written.{Wrote}
+use Rattle.figures.specs.declared.Stage.{Stage}
+use Rattle.figures.specs.declared.Stage.the-variants.{Line}
+use Rattle.figures.specs.declared.State.{State}
+use Rattle.figures.specs.States.{wrongOf, portOf, takesOf, staysOf, lineTakes, longerOf}
+use Rattle.figures.specs.Written.{Wrote}
 use Rattle.tipirun.specs.Lines.{portsOf, cellsOf, nextInput, shownOf, Lined, Left, maskAfter, valuesAfter, doneOf, outputsAfter, memoryAfter, turnedState, turnedOf, unturned, numberEnds, lineByte}
 
 -- ---- digits of a line
-
-pub line-first : (s : State) (b : ℕ) → takesOf s b ≡ true → staysOf s b ≡ lineTakes s b
-unfolding lineTakes
-line-first s b e = sym (simp (lineTakes, e))
-
-pub line-none : (s : State) (b : ℕ) → takesOf s b ≡ false → false ≡ lineTakes s b
-unfolding lineTakes
-line-none s b e = sym (simp (lineTakes, e))
 
 -- ---- what is left where nothing is run
 

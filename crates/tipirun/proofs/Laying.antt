@@ -16,14 +16,15 @@ use Rattle.language.specs.Meaning.{Outcome, cellWidths}
 use Rattle.language.specs.Reading.{accepted, Reads}
 use Rattle.plan.specs.Layout.{portCount, portAt, memoryCount, cellsBefore}
 use Rattle.plan.specs.Sound.{soundOf}
-use Rattle.plan.proofs.Parts.{ports-few}
-use Rattle.cycle.specs.Machine.{fitting, counts, refusedBy, cycleOf}
-use Rattle.cycle.proofs.Fired.{sound-sections}
+use Rattle.plan_sections.proofs.Parts.{ports-few}
+use Rattle.judged.specs.Tests.{fitting, counts}
+use Rattle.cycle.specs.Cycle.{refusedBy, cycleOf}
+use Rattle.judged.proofs.Fired.{sound-sections}
 use Rattle.cycle.proofs.Outcomes.{counted, cycle-sound, cycle-22, cells-few}
-use Rattle.planned.specs.PlanOf.{planOf}
-use Rattle.planned.specs.Theorems.{Planned}
-use Rattle.planned.proofs.Read.{reads-accepted}
-use Rattle.planned.proofs.Theorems.{reads-planned}
+use Rattle.plan_of.specs.PlanOf.{planOf}
+use Rattle.plan_of.specs.Theorems.{Planned}
+use Rattle.plan_of.proofs.Read.{reads-accepted}
+use Rattle.plan_of.proofs.Theorems.{reads-planned}
 use Rattle.tipirun.specs.Lines.{portsOf, cellsOf}
 use Rattle.tipirun.proofs.Signatures.{Kinds, no-port, a-port}
 

@@ -1,5 +1,3 @@
-pub mod Bytes
-pub mod Decimals
 pub mod Counting
 pub mod Cycles
 pub mod Ends

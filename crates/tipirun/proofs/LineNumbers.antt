@@ -10,14 +10,15 @@ use lib.ListN.{length}
 use Rattle.language.specs.Words.{digit}
 use Rattle.language.specs.Bindings.{Got, got, lost, digitsFrom, numberUpTo}
 use Rattle.language.specs.Worked.{isBad}
-use Rattle.tipirun.specs.declared.state.Stage.{Stage}
-use Rattle.tipirun.specs.declared.state.Stage.the-variants.{Line, Wrong}
-use Rattle.tipirun.specs.declared.state.State.{State}
-use Rattle.tipirun.specs.Reading.{wrongOf, grownOf, mostOf, takesOf, staysOf, lineTakes, longerOf}
+use Rattle.figures.specs.declared.Stage.{Stage}
+use Rattle.figures.specs.declared.Stage.the-variants.{Line, Wrong}
+use Rattle.figures.specs.declared.State.{State}
+use Rattle.figures.specs.States.{wrongOf, grownOf, mostOf, takesOf, staysOf, lineTakes, longerOf}
 use Rattle.tipirun.specs.Lines.{Lined, unturned, lineByte}
 use Rattle.tipirun.specs.Machine.{Machine, machine, stated, lined, movedAt, movedOf, unwritten, endedAt}
-use Rattle.tipirun.proofs.Counting.{takes-none, takes-first, takes-next, most-mask, most-value}
-use Rattle.tipirun.proofs.Ends.{line-first, line-none, line-takes, line-unbegun}
+use Rattle.figures.proofs.Counting.{takes-none, takes-first, takes-next, most-mask, most-value}
+use Rattle.figures.proofs.Counting.{line-first, line-none}
+use Rattle.tipirun.proofs.Ends.{line-takes, line-unbegun}
 use Rattle.tipirun.proofs.Stages.{ended-bad}
 use Rattle.tipirun.proofs.Onward.{From, none, on-to, closed, wrong-closed}
 use Rattle.tipirun.proofs.CountLines.{Enters, digit-range, stop-other, stop-zero, digit-more, first-digit, no-digit}

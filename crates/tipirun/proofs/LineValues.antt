@@ -12,13 +12,14 @@ use lib.Seq.{take-suc, take-suc-set, getD-set-other}
 use Rattle.language.specs.Bindings.{Got, got, lost, after, byte, numberUpTo}
 use Rattle.language.specs.Worked.{CycleRead, isBad}
 use Rattle.plan.specs.Layout.{portAt}
-use Rattle.tipirun.specs.declared.state.Stage.{Stage}
-use Rattle.tipirun.specs.declared.state.Stage.the-variants.{Line}
-use Rattle.tipirun.specs.declared.state.State.{State}
-use Rattle.tipirun.specs.Reading.{wrongOf, grownOf, portOf, mostOf, lineTakes}
+use Rattle.figures.specs.declared.Stage.{Stage}
+use Rattle.figures.specs.declared.Stage.the-variants.{Line}
+use Rattle.figures.specs.declared.State.{State}
+use Rattle.figures.specs.States.{wrongOf, grownOf, portOf, mostOf, lineTakes}
 use Rattle.tipirun.specs.Lines.{Lined, portsOf, inputFrom, nextInput, unturned, maskAfter, valuesAfter, turnedOf, numberEnds, lineByte}
 use Rattle.tipirun.specs.Machine.{Machine, machine, stated, lined, movedAt, movedOf, passedBy, Judges, unwritten}
-use Rattle.tipirun.proofs.Counting.{most-mask, most-value, input-first, mask-new, mask-old, values-old, values-new}
+use Rattle.figures.proofs.Counting.{most-mask, most-value}
+use Rattle.tipirun.proofs.Counting.{input-first, mask-new, mask-old, values-old, values-new}
 use Rattle.tipirun.proofs.Ends.{line-ends, blank-wrong, blank-next, end-wrong, end-turn}
 use Rattle.tipirun.proofs.Onward.{From, more}
 use Rattle.tipirun.proofs.CountLines.{Enters}

@@ -7,9 +7,9 @@ use lib.Dec.{ltb}
 use lib.ListN.{length, take, drop}
 use Rattle.language.specs.Reading.{Answer}
 use Rattle.tipi.specs.Told.{tableAfter}
-use Rattle.tipirun.specs.declared.state.Stage.{Stage}
-use Rattle.tipirun.specs.declared.state.Stage.the-variants.{ActorCount, Actor, BindingsCount, Bindings, CycleCount, Line, Through, Wrong, Stopped}
-use Rattle.tipirun.specs.declared.state.State.{State}
+use Rattle.figures.specs.declared.Stage.{Stage}
+use Rattle.figures.specs.declared.Stage.the-variants.{ActorCount, Actor, BindingsCount, Bindings, CycleCount, Line, Through, Wrong, Stopped}
+use Rattle.figures.specs.declared.State.{State}
 use Rattle.tipirun.specs.Machine.{Machine, machine, stated, movedAt, movedOf, passedAt, passedOf, whole, atBindings, planPassed, passedBy, Judges, Stepped, unwritten, preceded, Runs, stays, goes, endedAt, endedOf}
 
 -- ---- all that is written from a machine on

@@ -14,14 +14,15 @@ use Rattle.language.specs.Sizes.{Setting}
 use Rattle.language.specs.declared.Text.{Text}
 use Rattle.language.specs.declared.Text.the-variants.{Actor as InActor}
 use Rattle.language.specs.Worked.{isBad, line, Input, counted, inputOf, answered, Writes, writes-bad, writes}
-use Rattle.planned.specs.PlanOf.{planOf}
+use Rattle.plan_of.specs.PlanOf.{planOf}
 use Rattle.tipi.specs.Told.{madeOf, answerOf, tableAfter}
 use Rattle.tipi.specs.declared.Answer.{Answer as Told}
 use Rattle.tipi.specs.declared.Answer.the-variants.{Plan, Refused}
-use Rattle.tipirun.specs.declared.state.Stage.{Stage}
-use Rattle.tipirun.specs.declared.state.Stage.the-variants.{ActorCount, Actor, BindingsCount, Bindings, CycleCount, Line, Through, Wrong, Stopped}
-use Rattle.tipirun.specs.declared.state.State.{State}
-use Rattle.tipirun.specs.Reading.{startOf, plannedOf, actorByte, bindingsByte, judgedOf}
+use Rattle.figures.specs.declared.Stage.{Stage}
+use Rattle.figures.specs.declared.Stage.the-variants.{ActorCount, Actor, BindingsCount, Bindings, CycleCount, Line, Through, Wrong, Stopped}
+use Rattle.figures.specs.declared.State.{State}
+use Rattle.figures.specs.States.{startOf}
+use Rattle.tipirun.specs.Reading.{plannedOf, actorByte, bindingsByte, judgedOf}
 use Rattle.tipirun.specs.Machine.{Machine, machine, stated, movedAt, passedOf, passedBy, planPassed, whole, unwritten, Runs, started, endedOf, Prints, prints}
 use Rattle.tipirun.proofs.Stages.{over-actor, over-bindings, over-plan, same-plan, whole-at, ended-refused}
 use Rattle.tipirun.proofs.Onward.{From, from, closed, stopped-closed}

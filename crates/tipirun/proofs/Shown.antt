@@ -11,10 +11,10 @@ use Rattle.language.specs.Sizes.{Setting}
 use Rattle.language.specs.declared.Text.{Text}
 use Rattle.language.specs.Meaning.{cellWidths}
 use Rattle.language.specs.Worked.{isBad, line, anyNumber, cycles, Input, inputOf, answered, Writes, writes-bad, writes}
-use Rattle.planned.specs.PlanOf.{planOf}
+use Rattle.plan_of.specs.PlanOf.{planOf}
 use Rattle.tipi.proofs.Theorems.{reads-once}
-use Rattle.tipirun.specs.declared.state.Stage.the-variants.{Line}
-use Rattle.tipirun.specs.Reading.{startOf}
+use Rattle.figures.specs.declared.Stage.the-variants.{Line}
+use Rattle.figures.specs.States.{startOf}
 use Rattle.tipirun.specs.Machine.{Machine, stated, room, Prints}
 use Rattle.tipirun.specs.Statement.{HasRoom}
 use Rattle.tipirun.proofs.Onward.{From}

@@ -12,10 +12,11 @@ use Rattle.language.specs.Worked.{line, isBad}
 use Rattle.language.specs.Reading.{Answer, refused, Reads}
 use Rattle.language.specs.declared.Text.{Text}
 use Rattle.language.specs.declared.Text.the-variants.{Actor as InActor}
-use Rattle.tipirun.specs.declared.state.Stage.{Stage}
-use Rattle.tipirun.specs.declared.state.Stage.the-variants.{ActorCount, Actor, BindingsCount, Bindings, CycleCount, Line, Through, Wrong, Stopped}
-use Rattle.tipirun.specs.declared.state.State.{State}
-use Rattle.tipirun.specs.Reading.{startOf, countByte, keptOf, actorByte, bindingsByte, plannedOf, judgedOf, Judged}
+use Rattle.figures.specs.declared.Stage.{Stage}
+use Rattle.figures.specs.declared.Stage.the-variants.{ActorCount, Actor, BindingsCount, Bindings, CycleCount, Line, Through, Wrong, Stopped}
+use Rattle.figures.specs.declared.State.{State}
+use Rattle.figures.specs.States.{startOf}
+use Rattle.tipirun.specs.Reading.{countByte, keptOf, actorByte, bindingsByte, plannedOf, judgedOf, Judged}
 use Rattle.tipi.specs.Told.{answerOf, tableAfter, Read}
 use Rattle.tipi.specs.declared.Answer.{Answer as Told}
 use Rattle.tipi.specs.declared.Answer.the-variants.{Plan, Refused}

@@ -13,10 +13,11 @@ use Rattle.language.specs.Bindings.{Got, got, lost, after, byte, digitsFrom, nu
 use Rattle.language.specs.Words.{digit}
 use Rattle.language.specs.Worked.{isBad, anyNumber, counted}
 use Rattle.language.specs.Reading.{Answer}
-use Rattle.tipirun.specs.declared.state.Stage.{Stage}
-use Rattle.tipirun.specs.declared.state.Stage.the-variants.{ActorCount, Actor, BindingsCount, Bindings}
-use Rattle.tipirun.specs.declared.state.State.{State}
-use Rattle.tipirun.specs.Reading.{startOf, keptOf, actorByte, bindingsByte}
+use Rattle.figures.specs.declared.Stage.{Stage}
+use Rattle.figures.specs.declared.Stage.the-variants.{ActorCount, Actor, BindingsCount, Bindings}
+use Rattle.figures.specs.declared.State.{State}
+use Rattle.figures.specs.States.{startOf}
+use Rattle.tipirun.specs.Reading.{keptOf, actorByte, bindingsByte}
 use Rattle.tipirun.specs.Machine.{Machine, machine, stated, movedAt, movedOf, passedOf, planPassed, passedBy, Judges, unwritten, endedAt, endedOf}
 use Rattle.tipirun.proofs.Counting.{kept-in, kept-out}
 use Rattle.tipirun.proofs.Stages.{left-on, left-plan, ended-bad}

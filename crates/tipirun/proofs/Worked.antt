@@ -15,13 +15,13 @@ use Rattle.language.specs.Reading.{Answer, accepted, Reads}
 use Rattle.language.specs.Sizes.{Setting}
 use Rattle.language.specs.Meaning.{cellWidths}
 use Rattle.language.specs.Worked.{line, isBad, anyNumber, cycles, Input, inputOf, answered, Writes, writes-bad, writes}
-use Rattle.making.specs.Made.{tableAfter as tableWith}
-use Rattle.planned.specs.PlanOf.{planOf}
-use Rattle.planned.proofs.Theorems.{reads-planned}
+use Rattle.row13_plan.specs.Made.{tableAfter as tableWith}
+use Rattle.plan_of.specs.PlanOf.{planOf}
+use Rattle.plan_of.proofs.Theorems.{reads-planned}
 use Rattle.tipi.specs.Told.{tableAfter}
 use Rattle.tipi.proofs.Theorems.{reads-once}
-use Rattle.tipirun.specs.declared.state.Stage.the-variants.{Line}
-use Rattle.tipirun.specs.Reading.{startOf}
+use Rattle.figures.specs.declared.Stage.the-variants.{Line}
+use Rattle.figures.specs.States.{startOf}
 use Rattle.tipirun.specs.Lines.{portsOf, cellsOf}
 use Rattle.tipirun.specs.Machine.{Machine, Prints}
 use Rattle.tipirun.specs.Statement.{HasRoom, Worked, as-01, row-13}

@@ -1,26 +1,44 @@
 -- A cycle's line as it is read, the cycle, and the line that is written for it. Assumes nothing: these are definitions.
-use mathlib.Core.Path.{_≡_}
+use mathlib.Core.Path.{_≡_, refl}
 use mathlib.Core.Bool.{Bool, true, false}
 use mathlib.Core.List.{List, [], _∷_, _++_}
 use Prim.Native.Nat.{ℕ, zero, suc, _+_, _-_, _*_, _%_, _≤_, min}
 use lib.Dec.{eqb, leb, ltb}
 use lib.ListN.{length, take, drop, getD, set}
 use lib.Seq.{sets}
+use Rattle.language.specs.Limits.{limits}
 use Rattle.language.specs.Meaning.{Outcome}
 use Rattle.language.specs.Worked.{decimal, line}
 use Rattle.plan.specs.Layout.{portCount, portAt, memoryCount, cellsBefore}
-use Rattle.cycle.specs.Machine.{cycleOf}
-use Rattle.tipirun.specs.declared.state.Stage.{Stage}
-use Rattle.tipirun.specs.declared.state.Stage.the-variants.{Line}
-use Rattle.tipirun.specs.declared.state.State.{State}
-use Rattle.tipirun.specs.Reading.{wrongOf, portOf, lineTakes, longerOf}
+use Rattle.cycle.specs.Cycle.{cycleOf}
+use Rattle.figures.specs.Written.{numberBytes}
+use Rattle.figures.specs.declared.Stage.{Stage}
+use Rattle.figures.specs.declared.Stage.the-variants.{Line}
+use Rattle.figures.specs.declared.State.{State}
+use Rattle.figures.specs.States.{wrongOf, portOf, lineTakes, longerOf}
+
+-- ---- the most bytes that are written: a number of 64 bits has 20 digits, and a blank or a line end stands beside it
+
+-- the outputs of a cycle, and its line: its answer and the number of its present ports too
+abbrev pub outputsBytes : ℕ
+outputsBytes = 336
+
+abbrev pub lineBytes : ℕ
+lineBytes = 378
+
+-- all cells on a line
+abbrev pub cellsBytes : ℕ
+cellsBytes = 5_377
+
+pub sizes : (outputsBytes ≡ limits .ports * numberBytes) × (lineBytes ≡ 2 * numberBytes + outputsBytes) × (cellsBytes ≡ limits .cells * numberBytes + 1)
+sizes = (refl, refl, refl)
 
 -- the ports and cells of a plan, as far as the tables go
 unfoldable pub portsOf : List ℕ → ℕ
-portsOf p = min (portCount p) 16
+portsOf p = min (portCount p) (limits .ports)
 
 unfoldable pub cellsOf : List ℕ → ℕ
-cellsOf p = min (cellsBefore p (memoryCount p)) 256
+cellsOf p = min (cellsBefore p (memoryCount p)) (limits .cells)
 
 -- the first input among k ports from i on, or i + k
 unfoldable pub inputFrom : List ℕ → ℕ → ℕ → ℕ
@@ -59,14 +77,14 @@ pub record Left (x : Lined) (old : List ℕ) (at : ℕ) (r : State) (values outp
   pub cells : memory ≡ x .memory
   pub bytes : out ≡ sets old at (x .wrote)
   pub place : r .at ≡ at + length (x .wrote)
-  pub short : length (x .wrote) ≤ 378
+  pub short : length (x .wrote) ≤ lineBytes
 
 -- the tables that lines are read into have room
 pub record Roomy (values outputs memory out : List ℕ) (at : ℕ) : Type 0 where
-  pub ports : 16 ≤ length values
-  pub slots : 16 ≤ length outputs
-  pub cells : 256 ≤ length memory
-  pub room : at + 378 ≤ length out
+  pub ports : limits .ports ≤ length values
+  pub slots : limits .ports ≤ length outputs
+  pub cells : limits .cells ≤ length memory
+  pub room : at + lineBytes ≤ length out
 
 -- ---- a number of the line has ended
 

@@ -6,14 +6,16 @@ use Prim.Native.Nat.{ℕ, _+_, _*_, _≤_}
 use lib.Dec.{eqb, leb, ltb}
 use lib.ListN.{length, take, drop, getD, set, replicate}
 use lib.Seq.{sets}
+use Rattle.language.specs.Limits.{limits}
 use Rattle.language.specs.Worked.{line, isBad}
 use Rattle.language.specs.Reading.{Answer, Reads}
 use Rattle.tipi.specs.Told.{answerOf, tableAfter}
-use Rattle.tipirun.specs.declared.state.Stage.{Stage}
-use Rattle.tipirun.specs.declared.state.Stage.the-variants.{ActorCount, Actor, BindingsCount, Bindings, CycleCount, Line, Through, Wrong, Stopped}
-use Rattle.tipirun.specs.declared.state.State.{State}
-use Rattle.tipirun.specs.Reading.{startOf, beginOf, countByte, actorByte, bindingsByte, judgedOf}
-use Rattle.tipirun.specs.Lines.{Lined, lineByte, cellsOf}
+use Rattle.figures.specs.declared.Stage.{Stage}
+use Rattle.figures.specs.declared.Stage.the-variants.{ActorCount, Actor, BindingsCount, Bindings, CycleCount, Line, Through, Wrong, Stopped}
+use Rattle.figures.specs.declared.State.{State}
+use Rattle.figures.specs.States.{startOf, beginOf}
+use Rattle.tipirun.specs.Reading.{countByte, actorByte, bindingsByte, judgedOf}
+use Rattle.tipirun.specs.Lines.{lineBytes, Lined, lineByte, cellsOf}
 
 -- the state with its tables, and what a byte made it write
 pub record Machine : Type 0 where
@@ -130,12 +132,12 @@ pub record TablesStand (x : Machine) (old : List ℕ) (at most : ℕ) (r : State
 pub record Steps (m : Machine) (b : ℕ) (old : List ℕ) (at : ℕ) (r : State) (actor bindings plan values outputs memory out : List ℕ) : Type 0 where
   pub to : Machine
   pub stepped : Stepped m b to
-  pub stands : TablesStand to old at 378 r actor bindings plan values outputs memory out
+  pub stands : TablesStand to old at lineBytes r actor bindings plan values outputs memory out
 
 pub record Feeds (m : Machine) (bytes old : List ℕ) (at : ℕ) (r : State) (actor bindings plan values outputs memory out : List ℕ) : Type 0 where
   pub to : Machine
   pub runs : Runs m bytes to
-  pub stands : TablesStand to old at (378 * length bytes) r actor bindings plan values outputs memory out
+  pub stands : TablesStand to old at (lineBytes * length bytes) r actor bindings plan values outputs memory out
 
 -- ---- the end: "input not in this form `bad`", "number and place on one line", "then all cells on one line"
 
@@ -159,7 +161,7 @@ room = 16_384
 
 -- "memory starts at zeros"
 unfoldable pub started : Machine
-started = machine beginOf (replicate 8_193 0) (replicate 2_049 0) (replicate room 0) (replicate 16 0) (replicate 16 0) (replicate 256 0) []
+started = machine beginOf (replicate (limits .actor + 1) 0) (replicate (limits .bindings + 1) 0) (replicate room 0) (replicate (limits .ports) 0) (replicate (limits .ports) 0) (replicate (limits .cells) 0) []
 
 -- all that is written for an input
 pub data Prints (input : List ℕ) : List ℕ → Type 0 where

@@ -8,7 +8,7 @@ use Rattle.language.specs.Bindings.{got}
 use Rattle.language.specs.Reading.{accepted, Reads}
 use Rattle.language.specs.Sizes.{Setting}
 use Rattle.language.specs.Worked.{line, Input, inputOf, Writes}
-use Rattle.planned.specs.PlanOf.{planOf}
+use Rattle.plan_of.specs.PlanOf.{planOf}
 use Rattle.tipirun.specs.Machine.{room}
 
 -- where the two texts of the input are accepted, their plan has room

@@ -3,15 +3,15 @@ ghost use mathlib.Core.Path.{_≡_};
 ghost use mathlib.Core.List.{[]};
 ghost use Prim.Native.Nat.{_+_, _*_, _≤_};
 ghost use lib.ListN.{length};
-ghost use Rattle.tipirun.specs.Lines.{Roomy};
+ghost use Rattle.tipirun.specs.Lines.{Roomy, lineBytes};
 ghost use Rattle.tipirun.specs.Machine.{machine, movedOf, TablesStand, Steps, Feeds};
-use crate::state::Stage;
-use crate::state::State;
 use crate::texts::actor_byte;
 use crate::texts::bindings_byte;
 use crate::texts::count_byte;
 use crate::texts::passed;
 use crate::turns::line_byte;
+use figures::Stage;
+use figures::State;
 
 // What a byte does at each stage.
 fn moved(
@@ -26,7 +26,7 @@ fn moved(
     out: &mut [u8],
 ) -> State
     requires { ⌜ Roomy (now values) (now outputs) (now memory) (now out) (s .at) ⌝ }
-    ensures { λ r. ⌜ TablesStand (movedOf (machine s (now (actor .entry)) (now (bindings .entry)) (now (plan .entry)) (now (values .entry)) (now (outputs .entry)) (now (memory .entry)) []) b) (now (out .entry)) (s .at) 378 r (now (actor .exit)) (now (bindings .exit)) (now (plan .entry)) (now (values .exit)) (now (outputs .exit)) (now (memory .exit)) (now (out .exit)) ⌝ }
+    ensures { λ r. ⌜ TablesStand (movedOf (machine s (now (actor .entry)) (now (bindings .entry)) (now (plan .entry)) (now (values .entry)) (now (outputs .entry)) (now (memory .entry)) []) b) (now (out .entry)) (s .at) lineBytes r (now (actor .exit)) (now (bindings .exit)) (now (plan .entry)) (now (values .exit)) (now (outputs .exit)) (now (memory .exit)) (now (out .exit)) ⌝ }
 {
     let stage = s.stage;
     match stage {
@@ -73,7 +73,7 @@ pub fn feed(
     memory: &mut [u64],
     out: &mut [u8],
 ) -> State
-    requires { ⌜ Roomy (now values) (now outputs) (now memory) (now out) (s .at + 378 * length (now bytes)) ⌝ }
+    requires { ⌜ Roomy (now values) (now outputs) (now memory) (now out) (s .at + lineBytes * length (now bytes)) ⌝ }
     ensures { λ r. ⌜ Feeds (machine s (now (actor .entry)) (now (bindings .entry)) (now (plan .entry)) (now (values .entry)) (now (outputs .entry)) (now (memory .entry)) []) (now (bytes .entry)) (now (out .entry)) (s .at) r (now (actor .exit)) (now (bindings .exit)) (now (plan .exit)) (now (values .exit)) (now (outputs .exit)) (now (memory .exit)) (now (out .exit)) ⌝ }
 {
     let mut t = s;

@@ -3,22 +3,25 @@ ghost use mathlib.Core.Path.{_≡_};
 ghost use mathlib.Core.List.{[], _∷_};
 ghost use Prim.Native.Nat.{_+_, _*_, _≤_};
 ghost use lib.ListN.{length, drop};
+ghost use Rattle.tipirun.specs.Lines.{cellsBytes};
+ghost use Rattle.figures.specs.Written.{numberBytes};
+ghost use Rattle.language.specs.Limits.{limits};
 ghost use Rattle.language.specs.Worked.{line, isBad};
-ghost use Rattle.tipirun.specs.Written.{Wrote, blanked};
+ghost use Rattle.figures.specs.Written.{Wrote, blanked};
 ghost use Rattle.tipirun.specs.Machine.{machine, endedOf};
-use crate::numbers::next_number;
-use crate::numbers::number;
-use crate::numbers::put;
-use crate::numbers::wide;
-use crate::state::Stage;
-use crate::state::State;
-use crate::state::least;
 use crate::turns::cells;
+use figures::Stage;
+use figures::State;
+use figures::least;
+use figures::next_number;
+use figures::number;
+use figures::put;
+use figures::wide;
 
 // Some numbers, each after a blank.
 fn numbers_from(all: &[u64], from: usize, out: &mut [u8], at: usize) -> usize
-    requires { ⌜ at + 21 * length (drop from (now all)) ≤ length (now out) ⌝ }
-    ensures { λ r. ⌜ Wrote (now (out .entry)) at (blanked (drop from (now (all .entry)))) (21 * length (drop from (now (all .entry)))) r (now (out .exit)) ⌝ }
+    requires { ⌜ at + numberBytes * length (drop from (now all)) ≤ length (now out) ⌝ }
+    ensures { λ r. ⌜ Wrote (now (out .entry)) at (blanked (drop from (now (all .entry)))) (numberBytes * length (drop from (now (all .entry)))) r (now (out .exit)) ⌝ }
 {
     let mut k = at;
     let mut i = from;
@@ -31,8 +34,8 @@ fn numbers_from(all: &[u64], from: usize, out: &mut [u8], at: usize) -> usize
 
 // All cells on one line.
 fn show_cells(all: &[u64], out: &mut [u8], at: usize) -> usize
-    requires { ⌜ at + (21 * length (now all) + 1) ≤ length (now out) ⌝ }
-    ensures { λ r. ⌜ Wrote (now (out .entry)) at (line (now (all .entry))) (21 * length (now (all .entry)) + 1) r (now (out .exit)) ⌝ }
+    requires { ⌜ at + (numberBytes * length (now all) + 1) ≤ length (now out) ⌝ }
+    ensures { λ r. ⌜ Wrote (now (out .entry)) at (line (now (all .entry))) (numberBytes * length (now (all .entry)) + 1) r (now (out .exit)) ⌝ }
 {
     if all.len() == 0 {
         return put(out, at, 10);
@@ -44,8 +47,8 @@ fn show_cells(all: &[u64], out: &mut [u8], at: usize) -> usize
 
 // A refusal's number and place.
 fn show_refusal(row: u32, place: u32, out: &mut [u8], at: usize) -> usize
-    requires { ⌜ at + 42 ≤ length (now out) ⌝ }
-    ensures { λ r. ⌜ Wrote (now (out .entry)) at (line (row ∷ place ∷ [])) 42 r (now (out .exit)) ⌝ }
+    requires { ⌜ at + 2 * numberBytes ≤ length (now out) ⌝ }
+    ensures { λ r. ⌜ Wrote (now (out .entry)) at (line (row ∷ place ∷ [])) (2 * numberBytes) r (now (out .exit)) ⌝ }
 {
     let k = number(out, at, wide(row));
     let e = next_number(out, k, wide(place));
@@ -65,8 +68,8 @@ fn show_bad(out: &mut [u8], at: usize) -> usize
 
 // The input has ended, or no more of it is read.
 pub fn ended(s: State, plan: &[u32], memory: &[u64], out: &mut [u8]) -> usize
-    requires { ⌜ (256 ≤ length (now memory)) × (s .at + 5377 ≤ length (now out)) ⌝ }
-    ensures { λ r. ⌜ Wrote (now (out .entry)) (s .at) (endedOf (machine s [] [] (now (plan .entry)) [] [] (now (memory .entry)) [])) 5377 r (now (out .exit)) ⌝ }
+    requires { ⌜ (limits .cells ≤ length (now memory)) × (s .at + cellsBytes ≤ length (now out)) ⌝ }
+    ensures { λ r. ⌜ Wrote (now (out .entry)) (s .at) (endedOf (machine s [] [] (now (plan .entry)) [] [] (now (memory .entry)) [])) cellsBytes r (now (out .exit)) ⌝ }
 {
     let at = s.at;
     let stage = s.stage;

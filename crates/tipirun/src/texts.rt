@@ -4,14 +4,14 @@ ghost use lib.ListN.{length, take, set};
 ghost use Rattle.tipirun.specs.Reading.{countByte, keptOf, actorByte, bindingsByte, plannedOf};
 ghost use Rattle.tipirun.specs.Machine.{StagePassed};
 ghost use Rattle.tipirun.specs.Reading.{Judged};
-use crate::numbers::longer;
-use crate::numbers::takes;
-use crate::state::Stage;
-use crate::state::State;
-use crate::state::at_stage;
-use crate::state::least;
-use crate::state::less;
-use crate::state::wrong;
+use figures::Stage;
+use figures::State;
+use figures::at_stage;
+use figures::least;
+use figures::less;
+use figures::longer;
+use figures::takes;
+use figures::wrong;
 
 // A byte of a count, or the end of its line, after which a stage starts.
 pub fn count_byte(s: State, b: u8, next: Stage) -> State

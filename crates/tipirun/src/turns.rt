@@ -2,41 +2,47 @@
 ghost use mathlib.Core.Path.{_≡_};
 ghost use Prim.Native.Nat.{_+_, _*_, _≤_};
 ghost use lib.ListN.{length};
-ghost use Rattle.tipirun.specs.Written.{Wrote, blanked};
-ghost use Rattle.tipirun.specs.Lines.{portsOf, cellsOf, nextInput, outputOf, outputsFrom, shownOf, maskAfter, valuesAfter, turnedOf, numberEnds, lineByte, Left, Roomy};
-use crate::numbers::longer;
-use crate::numbers::next_number;
-use crate::numbers::number;
-use crate::numbers::put;
-use crate::numbers::takes_in_line;
-use crate::numbers::wide;
-use crate::state::Stage;
-use crate::state::State;
-use crate::state::at_port;
-use crate::state::least;
-use crate::state::less;
-use crate::state::wrong;
+ghost use Rattle.language.specs.Limits.{limits};
+ghost use Rattle.figures.specs.Written.{Wrote, blanked};
+ghost use Rattle.tipirun.specs.Lines.{portsOf, cellsOf, nextInput, outputOf, outputsFrom, shownOf, maskAfter, valuesAfter, turnedOf, numberEnds, lineByte, Left, Roomy, lineBytes, outputsBytes};
+ghost use Rattle.figures.specs.Written.{numberBytes};
+use figures::Stage;
+use figures::State;
+use figures::at_port;
+use figures::least;
+use figures::less;
+use figures::longer;
+use figures::next_number;
+use figures::number;
+use figures::put;
+use figures::takes_in_line;
+use figures::wide;
+use figures::wrong;
 use plan::cells_before;
 use plan::memory_count;
 use plan::place;
 use plan::port_at;
 use plan::port_count;
 
-const OUTPUT: u32 = 256;
+const OUTPUT: u32 = plan::OUTPUT;
 
-// The ports of the plan, at most 16.
+const PORTS: u32 = language::Plan::PORTS;
+
+const CELLS: usize = language::Plan::CELLS as usize;
+
+// The ports of the plan, as many as the table has room for.
 fn ports(plan: &[u32]) -> u32
-    ensures { λ r. ⌜ (r ≡ portsOf (now (plan .entry))) × (r ≤ 16) ⌝ }
+    ensures { λ r. ⌜ (r ≡ portsOf (now (plan .entry))) × (r ≤ limits .ports) ⌝ }
 {
     let n = port_count(plan);
-    if n < 16 { n } else { 16 }
+    if n < PORTS { n } else { PORTS }
 }
 
-// The cells of the plan, at most 256.
+// The cells of the plan, as many as the table has room for.
 pub fn cells(plan: &[u32]) -> usize
-    ensures { λ r. ⌜ (r ≡ cellsOf (now (plan .entry))) × (r ≤ 256) ⌝ }
+    ensures { λ r. ⌜ (r ≡ cellsOf (now (plan .entry))) × (r ≤ limits .cells) ⌝ }
 {
-    least(cells_before(plan, memory_count(plan)), 256)
+    least(cells_before(plan, memory_count(plan)), CELLS)
 }
 
 // The first input from a port on, if there is one; else what is not below the number of ports.
@@ -56,8 +62,8 @@ fn next_input(plan: &[u32], from: u32) -> u32
 
 // A port's value after a blank, if it is an output.
 fn show_output(kind: u32, value: u64, out: &mut [u8], at: usize) -> usize
-    requires { ⌜ at + 21 ≤ length (now out) ⌝ }
-    ensures { λ r. ⌜ Wrote (now (out .entry)) at (outputOf kind value) 21 r (now (out .exit)) ⌝ }
+    requires { ⌜ at + numberBytes ≤ length (now out) ⌝ }
+    ensures { λ r. ⌜ Wrote (now (out .entry)) at (outputOf kind value) numberBytes r (now (out .exit)) ⌝ }
 {
     if kind < OUTPUT {
         return at;
@@ -67,8 +73,8 @@ fn show_output(kind: u32, value: u64, out: &mut [u8], at: usize) -> usize
 
 // The outputs, each after a blank.
 fn show_outputs(plan: &[u32], outputs: &[u64], out: &mut [u8], at: usize) -> usize
-    requires { ⌜ (16 ≤ length (now outputs)) × (at + 336 ≤ length (now out)) ⌝ }
-    ensures { λ r. ⌜ Wrote (now (out .entry)) at (blanked (outputsFrom (now (plan .entry)) (now (outputs .entry)) (portsOf (now (plan .entry))) 0)) 336 r (now (out .exit)) ⌝ }
+    requires { ⌜ (limits .ports ≤ length (now outputs)) × (at + outputsBytes ≤ length (now out)) ⌝ }
+    ensures { λ r. ⌜ Wrote (now (out .entry)) at (blanked (outputsFrom (now (plan .entry)) (now (outputs .entry)) (portsOf (now (plan .entry))) 0)) outputsBytes r (now (out .exit)) ⌝ }
 {
     let n = ports(plan);
     let mut k = at;
@@ -89,8 +95,8 @@ fn show(
     out: &mut [u8],
     at: usize,
 ) -> usize
-    requires { ⌜ (16 ≤ length (now outputs)) × (at + 378 ≤ length (now out)) ⌝ }
-    ensures { λ r. ⌜ Wrote (now (out .entry)) at (shownOf (now (plan .entry)) answer present (now (outputs .entry))) 378 r (now (out .exit)) ⌝ }
+    requires { ⌜ (limits .ports ≤ length (now outputs)) × (at + lineBytes ≤ length (now out)) ⌝ }
+    ensures { λ r. ⌜ Wrote (now (out .entry)) at (shownOf (now (plan .entry)) answer present (now (outputs .entry))) lineBytes r (now (out .exit)) ⌝ }
 {
     let k = number(out, at, wide(answer));
     if answer != 0 {

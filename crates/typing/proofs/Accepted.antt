@@ -15,8 +15,8 @@ use Rattle.language.specs.Counts.{typeWords}
 use Rattle.language.specs.Types.{typeFaults}
 use Rattle.language.specs.Bindings.{Bindings}
 use Rattle.language.specs.Widths.{Want, exactly, valued, typeWant, declaredType, portWant, wants, boundNames, valueIn}
-use Rattle.typing.specs.Terms.{Term, number, code, logsIn, TypeOf}
-use Rattle.typing.specs.Walk.{TermStands}
+use Rattle.type_value.specs.Terms.{Term, number, code, logsIn, TypeOf}
+use Rattle.type_value.specs.Walk.{TermStands}
 use Rattle.typing.specs.Solved.{Coded, termOf, termsOf}
 use Rattle.typing.proofs.Rules.{none-left, none-right, passed, type-right}
 use Rattle.typing.proofs.Bridge.{as-many}

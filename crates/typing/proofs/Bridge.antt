@@ -14,9 +14,9 @@ use Rattle.language.specs.Tree.{Ty, Actor, spelledOf}
 use Rattle.language.specs.Bindings.{Bindings}
 use Rattle.language.specs.Types.{wholeOf, floorOf, widthOf, exactOf}
 use Rattle.language.specs.Widths.{Want, exactly, valued, wants, valueIn, portWidth, typeWidth, wantedWidth, Satisfies, Least, Resolved}
-use Rattle.typing.specs.Terms.{Term, valueAt}
+use Rattle.type_value.specs.Terms.{Term, valueAt}
 use Rattle.typing.specs.Solved.{wanted, Solves, Answer, termOf, termsOf}
-use Rattle.typing.proofs.Logs.{down-is, up-zero}
+use Rattle.exact.proofs.Logs.{down-is, up-zero}
 use Rattle.typing.proofs.Rules.{resolved}
 
 -- a number's width is itself

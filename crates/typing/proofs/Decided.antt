@@ -6,8 +6,8 @@ use Prim.Native.Nat.{ℕ}
 use native.Mathlib.Nat.{le-antisymm}
 use lib.ListN.{length}
 use lib.Seq.{ext-getD}
-use Rattle.typing.specs.Terms.{Term, TypeOf, Small}
-use Rattle.typing.specs.Walk.{TermStands}
+use Rattle.type_value.specs.Terms.{Term, TypeOf, Small}
+use Rattle.type_value.specs.Walk.{TermStands}
 use Rattle.typing.specs.Solved.{Answer}
 
 pub one-answer : (ts : List Term) (r s : Bool) (ws vs : List ℕ) → Answer r ts ws → Answer s ts vs → (r ≡ s) × (ws ≡ vs)

@@ -16,7 +16,7 @@ use Rattle.language.specs.Counts.{typeWords}
 use Rattle.language.specs.Types.{typeFaults}
 use Rattle.language.specs.Bindings.{Bindings}
 use Rattle.language.specs.Widths.{valueIn, Resolved}
-use Rattle.typing.specs.Terms.{Term}
+use Rattle.type_value.specs.Terms.{Term}
 use Rattle.typing.specs.Solved.{wanted, Answer, termsOf}
 use Rattle.typing.proofs.Progress.{AllFine, Progress, slack, at-zero, zero-small, same, change, less, measure-falls, small-set, finish, none as no-widths}
 use Rattle.typing.proofs.Accepted.{All, terms-right}

@@ -1,12 +1,4 @@
-pub mod Logs
-pub mod Compare
-pub mod Order
-pub mod Grows
 pub mod Sentence
-pub mod Bounds
-pub mod Cells
-pub mod Walking
-pub mod Tested
 pub mod Progress
 pub mod Decided
 pub mod Rules

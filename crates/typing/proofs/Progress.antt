@@ -12,10 +12,10 @@ use lib.Dec.{lit≤}
 use lib.ListN.{length, getD, set, replicate, length-replicate}
 use lib.Seq.{getD-set-same, getD-set-other}
 use Rattle.language.specs.Types.{widthOf}
-use Rattle.typing.specs.Terms.{Term, number, valueAt, Fine, TypeOf, Small}
-use Rattle.typing.specs.Walk.{TermStands}
+use Rattle.type_value.specs.Terms.{Term, number, valueAt, Fine, TypeOf, Small}
+use Rattle.type_value.specs.Walk.{TermStands}
 use Rattle.typing.specs.Solved.{wanted, Solves, Lowest, Coded}
-use Rattle.typing.proofs.Grows.{Under, widths-grow}
+use Rattle.type_value.proofs.Grows.{Under, widths-grow}
 
 -- every type keeps the rules
 abbrev pub AllFine : List Term → Type 0

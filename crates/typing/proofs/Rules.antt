@@ -15,8 +15,8 @@ use Rattle.language.specs.Parts.{each, typePorts}
 use Rattle.language.specs.Names.{when, missing}
 use Rattle.language.specs.Counts.{typeWords}
 use Rattle.language.specs.Types.{wholeOf, plusOf, minusOf, logOf, floorOf, ceilOf, greaterOf, widthOf, exactOf, logs, rulesBroken, typeFaults}
-use Rattle.typing.specs.Terms.{Term, number, port, log, floor, ceil, plus, minus, code, valueAt, resolve, logsIn, Closed, Fine, TypeOf}
-use Rattle.typing.proofs.Bounds.{one-long, two-long}
+use Rattle.type_value.specs.Terms.{Term, number, port, log, floor, ceil, plus, minus, code, valueAt, resolve, logsIn, Closed, Fine, TypeOf}
+use Rattle.type_value.proofs.Bounds.{one-long, two-long}
 
 -- ---- the same value
 

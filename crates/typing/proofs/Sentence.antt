@@ -10,8 +10,8 @@ use Rattle.language.specs.Tree.{Ty, number, environment, port, plus, minus, log
 use Rattle.language.specs.Bindings.{Bindings}
 use Rattle.language.specs.Types.{IsAtLeast, floorOf, ceilOf, widthOf, exactOf}
 use Rattle.language.specs.Widths.{valueIn, portWidth, typeWidth}
-use Rattle.typing.proofs.Order.{Pos, width-meaning}
-use Rattle.typing.proofs.Grows.{greater-positive}
+use Rattle.type_value.proofs.Order.{Pos, width-meaning}
+use Rattle.type_value.proofs.Grows.{greater-positive}
 
 -- the arguments of the added logs, and of the subtracted ones, never multiply to zero
 pub exact-positive : (widths values : List ℕ → ℕ) (t : Ty) → Pos (exactOf widths values t)

@@ -1,3 +1,1 @@
-pub mod Terms
-pub mod Walk
 pub mod Solved

@@ -7,8 +7,8 @@ use native.Mathlib.Numerals.{add-one}
 use native.Mathlib.Omega.{arith}
 use lib.ListN.{length, getD, set, take, drop, length-take, length-drop}
 use lib.Seq.{getD-set-same, getD-set-other, getD-drop, take-suc}
-use Rattle.typing.specs.Terms.{Term, code, TypeOf}
-use Rattle.typing.specs.Walk.{part, TermStands}
+use Rattle.type_value.specs.Terms.{Term, code, TypeOf}
+use Rattle.type_value.specs.Walk.{part, TermStands}
 use Rattle.typing_vectors.specs.Judged.{Judged, codes, Marked, Held}
 
 -- a store at or past them leaves them

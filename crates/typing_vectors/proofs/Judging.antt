@@ -6,7 +6,7 @@ use native.Mathlib.Nat.{le-refl, max-le}
 use native.Mathlib.Decide.{ℕ-discrete}
 use native.Mathlib.Omega.{arith}
 use lib.Arith.{lt-of-le-ne}
-use Rattle.typing.specs.Terms.{Term, number, port, log, floor, ceil, plus, minus, greater, code, logsIn, Closed, Fine}
+use Rattle.type_value.specs.Terms.{Term, number, port, log, floor, ceil, plus, minus, greater, code, logsIn, Closed, Fine}
 use Rattle.typing_vectors.specs.Judged.{hasPort, Judged}
 
 port-le : (t : Term) → hasPort t ≤ 1

@@ -6,8 +6,8 @@ use native.Mathlib.Nat.{not-suc-le-zero, add-zero}
 use lib.ListN.{length, getD, length-append, List·getD-append}
 use lib.Seq.{getD-append-add}
 use borrow.Author.Count.{below-more}
-use Rattle.typing.specs.Terms.{Term, number, TypeOf}
-use Rattle.typing.specs.Walk.{TermStands}
+use Rattle.type_value.specs.Terms.{Term, number, TypeOf}
+use Rattle.type_value.specs.Walk.{TermStands}
 use Rattle.typing.specs.Solved.{Coded}
 
 pub record Upto (code starts ends : List ℕ) (n i : ℕ) : Type 0 where

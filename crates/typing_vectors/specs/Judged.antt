@@ -3,7 +3,7 @@ use mathlib.Core.Path.{_≡_}
 use mathlib.Core.List.{List, [], _∷_, _++_}
 use Prim.Native.Nat.{ℕ, zero, suc, _+_, _*_, max}
 use lib.ListN.{getD}
-use Rattle.typing.specs.Terms.{Term, number, port, log, floor, ceil, plus, minus, greater, code, logsIn, Fine}
+use Rattle.type_value.specs.Terms.{Term, number, port, log, floor, ceil, plus, minus, greater, code, logsIn, Fine}
 
 -- 1 where a port stands outside the right operands of `-`
 unfoldable pub hasPort : Term → ℕ

@@ -4,8 +4,8 @@ ghost use mathlib.Core.Bool.{true};
 ghost use mathlib.Core.List.{List, [], _∷_, _++_};
 ghost use Prim.Native.Nat.{ℕ, _+_, _≤_, _<_};
 ghost use lib.ListN.{length, getD, set};
-ghost use Rattle.typing.specs.Terms.{Term, TypeOf};
-ghost use Rattle.typing.specs.Walk.{TermStands};
+ghost use Rattle.type_value.specs.Terms.{Term, TypeOf};
+ghost use Rattle.type_value.specs.Walk.{TermStands};
 ghost use Rattle.typing.specs.Solved.{Coded};
 ghost use Rattle.typing_vectors.specs.Judged.{Judged, Held};
 

@@ -3,7 +3,7 @@
 // What goes out: for a type its width and bit position, for a system whether it has widths, and these.
 mod judge;
 
-use typing::Position;
+use exact::Position;
 ghost use mathlib.Core.Path.{_≡_};
 ghost use Prim.Native.Nat.{_≤_, _<_};
 ghost use lib.ListN.{length};
@@ -69,9 +69,9 @@ fn print_position(p: Position) {
 fn print_type(code: &[u32], long: usize, ws: &[u32]) {
     if judge::sound(code, 0, long, ws.len()) {
         if judge::small(ws) {
-            io::print_decimal(1, typing::width_at(code, 0, long, ws));
+            io::print_decimal(1, type_value::width_at(code, 0, long, ws));
             io::write_all(1, b" ");
-            print_position(typing::position_at(code, 0, long, ws));
+            print_position(type_value::position_at(code, 0, long, ws));
         }
     }
     io::write_all(1, b"\n");

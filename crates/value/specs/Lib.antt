@@ -1,3 +1,4 @@
 pub mod Fits
 pub mod Masks
 pub mod Reversal
+pub mod Numbers

@@ -14,7 +14,7 @@ use borrow.Author.Tests.{eqb-true, eqb-false, leb-true, leb-false, ltb-true}
 use lib.ListN.{length, take, drop, getD}
 use Rattle.language.specs.Text.{Name, same, among}
 use Rattle.language.specs.Words.{Word, num, name, digits, fixed, Numeral, Next, over, apart, word, wrong, bytes, spellings, begins, span, digit, nameByte, digitIn, gap, baseOf, valueInBase, namedNext, ownName, numberNext, nameNext, quoteNext, first-of, left-out, keywords, signs, signNext, next, Lexed, words, badAt, push, wordsFrom, wordsOf, leftOut}
-use Rattle.names.proofs.Laws.{allBelow, below-all}
+use Rattle.spelling.proofs.Laws.{allBelow, below-all}
 use Rattle.words.specs.Table.{numbersOf, tableOf, wordOf, wordAt, kindIn, spelledWords}
 use Rattle.words.specs.Found.{untilFrom, wordsUntil, leftIn, leftKind}
 use Rattle.words.proofs.Bytes.{never, span-taken}

@@ -10,7 +10,7 @@ use lib.ListN.{length, take, drop, getD, drop-of-length-le, length-drop}
 use lib.Seq.{drop-cons, drop-drop, take-nil, take-all}
 use borrow.Author.Tests.{le-leb, lt-leb, lt-ltb, le-ltb, eq-eqb, ne-eqb, leb-true, leb-false}
 use Rattle.language.specs.Words.{bytes, begins, span, blank, digit, letter, plainByte, nameByte, digitOf, digitIn, close, gap, after-gaps, baseOf, one-of, some-of}
-use Rattle.names.proofs.Laws.{under, above, is-neither}
+use Rattle.spelling.proofs.Laws.{under, above, is-neither}
 use Rattle.words.specs.Found.{testOf, GapAt, AfterGaps}
 
 pub never : {A : Type 0} → true ≡ false → A

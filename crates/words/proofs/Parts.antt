@@ -13,7 +13,7 @@ use lib.Seq.{drop-cons}
 use borrow.Author.Tests.{lt-ltb, le-ltb, eq-eqb, ne-eqb, eqb-true}
 use Rattle.language.specs.Text.{same}
 use Rattle.language.specs.Words.{Word, fixed, digits, Next, over, apart, word, wrong, bytes, begins, spellings, span, digit, nameByte, plainByte, digitOf, digitIn, gap, one-of, baseOf, namedNext, quoteNext, first-of, signs, signNext, numberNext, nameNext, next}
-use Rattle.names.proofs.Laws.{allBelow, below-all}
+use Rattle.spelling.proofs.Laws.{allBelow, below-all}
 use Rattle.words.specs.Table.{kindIn, spelledWords, numbersOf}
 use Rattle.words.specs.Signs.{signOf, signKind}
 use Rattle.words.specs.Found.{testOf, Tells, isWord, isWrong, isOver, isApart}

@@ -14,8 +14,8 @@ use lib.Seq.{drop-cons, drop-drop}
 use borrow.Author.Tests.{le-leb, lt-leb, lt-ltb, le-ltb, eq-eqb, ne-eqb, leb-true, leb-false, eqb-true, ltb-true}
 use Rattle.language.specs.Text.{Name, same, index, among}
 use Rattle.language.specs.Words.{Word, name, fixed, Next, word, wrong, bytes, spellings, some-of, plainByte, letter, span, nameByte, digit, gap, after-gaps, keywords, left-out, first-of, goodName, ownName, nameNext, namedNext}
-use Rattle.names.proofs.Laws.{allBelow, below-all, rows-many, among-index}
-use Rattle.names.specs.Fixed.{fixedNames, rowOf}
+use Rattle.spelling.proofs.Laws.{allBelow, below-all, rows-many, among-index}
+use Rattle.spelling.specs.Fixed.{fixedNames, rowOf}
 use Rattle.words.specs.Table.{kindIn, spelledWords, numbersOf}
 use Rattle.words.specs.Signs.{rowKind}
 use Rattle.words.specs.Found.{testOf, Tells, isWord, isWrong}

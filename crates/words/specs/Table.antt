@@ -20,6 +20,14 @@ unfoldable pub kindIn : List String → String → ℕ
 kindIn [] s = zero
 kindIn (v ∷ l) s = elim (eqt v s) [ true ↦ zero | false ↦ suc (kindIn l s) ]
 
+unfoldable pub kindsOf : List String → List ℕ
+kindsOf [] = []
+kindsOf (s ∷ l) = (4 + kindIn spelledWords s) ∷ kindsOf l
+
+-- every kind in this order: those of the code are proved to be these (`words::kinds::all`)
+unfoldable pub kinds : List ℕ
+kinds = 1 ∷ 2 ∷ 3 ∷ kindsOf spelledWords
+
 -- the four numbers of a word
 unfoldable pub numbersOf : Word → List ℕ
 numbersOf (num n) = 1 ∷ n .at ∷ n .long ∷ n .value ∷ []

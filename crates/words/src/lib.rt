@@ -2,6 +2,7 @@
 // What comes in: a text and a lent table. What goes out: the number of words, each four numbers in
 // the table (kind, place, length, value), or the place of the first bad word.
 mod constants;
+pub mod kinds;
 mod texts;
 
 pub use constants::constant;
@@ -64,6 +65,12 @@ const NAME: usize = 1;
 const SIGNS: [u8; 80] =
     *b"=>==!=<<<=>>>=&&||~&~|~^^~(\0)\0{\0}\0[\0]\0,\0;\0:\0?\0.\0=\0<\0>\0!\0~\0&\0|\0^\0+\0-\0*\0/\0%\0@\0$\0#\0";
 
+// What the kind of a single sign is more than its row: `(` is row 13.
+const SINGLE: u32 = kinds::OPEN - 13;
+
+// The same of the signs of row 4: `@` is row 37.
+const LEFT_OUT: u32 = kinds::AT_SIGN - 37;
+
 fn is_blank(b: u8) -> bool
     ensures { λ r. ⌜ r ≡ blank b ⌝ }
 {
@@ -90,7 +97,7 @@ fn digit_of(b: u8) -> usize
 fn digit_in(base: usize, b: u8) -> bool
     ensures { λ r. ⌜ r ≡ digitIn base b ⌝ }
 {
-    if !names::is_plain(b) {
+    if !spelling::is_plain(b) {
         return false;
     }
     digit_of(b) < base
@@ -102,7 +109,7 @@ fn passes(class: usize, b: u8) -> bool
 {
     match class {
         0 => b != b'\n',
-        1 => names::is_name_byte(b),
+        1 => spelling::is_name_byte(b),
         _ => digit_in(class, b),
     }
 }
@@ -197,10 +204,10 @@ fn own_name(text: &[u8], at: usize) -> bool
 {
     let end = at + span(text, at, NAME);
     let run = &text[at..end];
-    if names::spelled(run) < 21 {
+    if spelling::spelled(run) < 21 {
         return false;
     }
-    names::good_name(run)
+    spelling::good_name(run)
 }
 
 // Whether separators stand at a place, and after them a name.
@@ -215,7 +222,7 @@ fn named(text: &[u8], at: usize) -> bool
     if text.len() <= p {
         return false;
     }
-    if names::is_digit(text[p]) {
+    if spelling::is_digit(text[p]) {
         return false;
     }
     own_name(text, p)
@@ -231,7 +238,7 @@ fn number(text: &[u8], at: usize) -> Item
     let mut i = at;
     while i < text.len() {
         let b = text[i];
-        if !names::is_digit(b) {
+        if !spelling::is_digit(b) {
             return number_of(i - at, v);
         }
         v = grown(v, b);
@@ -258,7 +265,7 @@ fn number_of(n: usize, v: u64) -> Item
     if NUMBER < v {
         return Item::Wrong;
     }
-    Item::Word(1, n, v as u32)
+    Item::Word(kinds::NUMBER, n, v as u32)
 }
 
 // The kind of a fixed word that is spelled like a name.
@@ -267,10 +274,10 @@ fn row_kind(row: usize) -> u32
     ensures { λ r. ⌜ r ≡ rowKind row ⌝ }
 {
     match row {
-        18 => 22,
-        19 => 60,
-        20 => 61,
-        _ => 4 + row as u32,
+        18 => kinds::DEFAULT,
+        19 => kinds::FOREACH,
+        20 => kinds::INSTRUCTION,
+        _ => kinds::INPUT + row as u32,
     }
 }
 
@@ -283,12 +290,12 @@ fn name(text: &[u8], at: usize) -> Item
     let n = span(text, at, NAME);
     let end = at + n;
     let run = &text[at..end];
-    let row = names::spelled(run);
+    let row = spelling::spelled(run);
     if row < 21 {
         return Item::Word(row_kind(row), n, 0);
     }
-    if names::good_name(run) {
-        return Item::Word(2, n, 0);
+    if spelling::good_name(run) {
+        return Item::Word(kinds::NAME, n, 0);
     }
     Item::Wrong
 }
@@ -320,13 +327,13 @@ fn quote(text: &[u8], at: usize) -> Item
     }
     let n = span(text, at + 2, base);
     if 0 < n {
-        return Item::Word(3, n + 2, 0);
+        return Item::Word(kinds::DIGITS, n + 2, 0);
     }
     if base != 10 {
         return Item::Wrong;
     }
     if named(text, at + 2) {
-        return Item::Word(23, 2, 0);
+        return Item::Word(kinds::VALUE, 2, 0);
     }
     Item::Wrong
 }
@@ -350,10 +357,10 @@ fn sign_kind(row: usize) -> u32
     ensures { λ r. ⌜ r ≡ signKind row ⌝ }
 {
     match row {
-        0..=11 => row as u32 + 24,
-        12 => 35,
-        13..=36 => row as u32 + 23,
-        _ => row as u32 + 25,
+        0..=11 => row as u32 + kinds::ARROW,
+        12 => kinds::NOT_XOR,
+        13..=36 => row as u32 + SINGLE,
+        _ => row as u32 + LEFT_OUT,
     }
 }
 
@@ -381,10 +388,10 @@ fn word(text: &[u8], at: usize) -> Item
     ensures { λ r. ⌜ Tells (now (text .entry)) at (nextOf (drop at (now (text .entry)))) r ⌝ }
 {
     let b = text[at];
-    if names::is_digit(b) {
+    if spelling::is_digit(b) {
         return number(text, at);
     }
-    if names::is_name_byte(b) {
+    if spelling::is_name_byte(b) {
         return name(text, at);
     }
     if b == b'\'' {
@@ -451,7 +458,7 @@ pub fn words(text: &[u8], table: &mut [u32]) -> Found
     Found::Words(i as u32)
 }
 
-// The place of the earliest of the first n words that is of row 4: kinds 60 to 64.
+// The place of the earliest of the first n words that is of row 4.
 pub fn left_out(table: &[u32], n: usize) -> Place
     requires { ⌜ 4 * n ≤ length (now table) ⌝ }
     ensures { λ r. ⌜ r ≡ placeTold (earliest (leftIn (now (table .entry)) 0 n)) ⌝ }
@@ -471,7 +478,7 @@ fn is_left_out(kind: u32) -> bool
     ensures { λ r. ⌜ r ≡ leftKind kind ⌝ }
 {
     match kind {
-        60..=64 => true,
+        kinds::FOREACH..=kinds::HASH => true,
         _ => false,
     }
 }

@@ -6,8 +6,8 @@ use Prim.Native.Nat.{ℕ, _+_, _-_, _*_, _≤_, _<_}
 use native.Mathlib.Omega.{arith}
 use lib.ListN.{length, take, length-take}
 use lib.Seq.{length-take-le}
-use Rattle.tipirun.specs.declared.state.State.{State}
-use Rattle.tipirun.specs.Written.{Wrote}
+use Rattle.figures.specs.declared.State.{State}
+use Rattle.figures.specs.Written.{Wrote}
 use Rattle.tipirun.specs.Lines.{Roomy}
 use Rattle.tipirun.specs.Machine.{Machine, Feeds}
 use Rattle.tipirun.proofs.main.Statement.{statement}

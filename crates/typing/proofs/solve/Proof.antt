@@ -5,7 +5,7 @@ use Prim.Native.Nat.{ℕ, suc, _+_, _-_, _*_, _≤_, _<_}
 use native.Mathlib.Omega.{arith}
 use mathlib.Core.List.{List}
 use lib.ListN.{length, getD, replicate, length-set, length-replicate}
-use Rattle.typing.specs.Terms.{Term}
+use Rattle.type_value.specs.Terms.{Term}
 use Rattle.typing.specs.Solved.{Coded}
 use Rattle.typing.proofs.Progress.{Progress, slack, begins, in-range, told, none, all-fine, same, change, less, measure-falls, small-set, finish}
 use Rattle.typing.proofs.solve.Statement.{statement}
@@ -50,7 +50,9 @@ fill-requires-2 : tie.Need-fill-requires-2 Inv-loop μ-loop
 fill-requires-2 c κs = tt
 
 same-length : tie.Need-same-length Inv-loop μ-loop
-same-length c = ap length (c .before .before .fill2 .ensures) ∙ length-replicate (length (c .before .before .before .before .before .before .before .before .before .before .loop .ws)) _ ∙ c .before .before .before .before .before .before .before .before .before .before .loop .inv .0 ∙ sym (c .before .before .before .before .before .before .before .before .before .before .before .before .before .before .before .before .before .before .before .pre .1)
+same-length c =
+    let l = c .before .before .before .before .before .before .before .before .before .before .loop in
+    ap length (c .before .before .fill2 .ensures) ∙ length-replicate (length (l .ws)) _ ∙ l .inv .0 ∙ sym (c .before .before .before .before .before .before .before .before .before .before .before .before .before .before .before .before .before .before .before .pre .1)
 
 returns : tie.Need-returns Inv-loop μ-loop
 returns c =

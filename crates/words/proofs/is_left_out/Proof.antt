@@ -1,7 +1,7 @@
 -- `words::is_left_out` meets its contract. Assumes nothing.
 use native.Mathlib.Omega.{arith}
 use mathlib.Core.Path.{sym}
-use Rattle.names.proofs.Laws.{within, under, above}
+use Rattle.spelling.proofs.Laws.{within, under, above}
 use Rattle.words.specs.Found.{leftKind}
 use Rattle.words.proofs.is_left_out.Statement.{statement}
 use Rattle.words.proofs.is_left_out.Tie as tie

@@ -3,7 +3,7 @@ use native.Mathlib.Omega.{arith}
 use mathlib.Core.Path.{_≡_, refl, sym, ap, _∙_}
 use Rattle.language.specs.Words.{ownName, goodName, spellings, nameByte}
 use Rattle.language.specs.Text.{index}
-use Rattle.names.specs.Fixed.{fixedNames}
+use Rattle.spelling.specs.Fixed.{fixedNames}
 use lib.ListN.{getD}
 use Rattle.words.specs.Found.{testOf, isWrong}
 use Rattle.words.proofs.Bytes.{span-next}

@@ -3,7 +3,7 @@ use native.Mathlib.Omega.{arith}
 use mathlib.Core.Path.{_≡_, refl, sym, ap, _∙_}
 use Rattle.language.specs.Words.{ownName, goodName, spellings}
 use Rattle.language.specs.Text.{index}
-use Rattle.names.specs.Fixed.{fixedNames}
+use Rattle.spelling.specs.Fixed.{fixedNames}
 use Rattle.words.proofs.Spelled.{own-fixed, own-other, run-is}
 use borrow.Author.Needs.{needs}
 use Rattle.words.proofs.own_name.Statement.{statement}

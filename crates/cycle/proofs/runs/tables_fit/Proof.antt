@@ -7,7 +7,8 @@ use lib.ListN.{length, getD, set, take, drop}
 use borrow.Author.Tests.{le-ltb, lt-ltb, le-leb, lt-leb, eq-eqb, ne-eqb}
 use lib.ListN.{length-take, length-drop, length-set}
 use Rattle.plan.specs.Layout.{portCount, memoryCount, cellsBefore}
-use Rattle.cycle.specs.Turn.{Turned, Tables}
+use Rattle.cycle.specs.Turn.{outcome}
+use Rattle.machine.specs.Tables.{Tables}
 use Rattle.cycle.specs.Run.{result, turnsOf, tablesFit, runOf}
 use Rattle.cycle.proofs.Night.{Runs, runs-start, next-fits, next-at, runs-next, runs-end, times, run-20, run-21, run-0, tables-told}
 use borrow.Author.Needs.{needs}
@@ -37,7 +38,15 @@ times-requires-3 c κs = search needs
 
 returns : tie.Need-returns
 unfolding tablesFit
-returns c = simp (c .before .before .times .ensures, c .before .times2 .ensures, c .times3 .ensures, c .before .before .before .before .before .place .ensures .0, c .before .before .before .before .before .before .port-count .ensures, c .before .before .before .cells-before .ensures .0, c .before .before .before .before .memory-count .ensures)
+returns c =
+    let times = c .before .before .times in
+    let times2 = c .before .times2 in
+    let times3 = c .times3 in
+    let place = c .before .before .before .before .before .place in
+    let port-count = c .before .before .before .before .before .before .port-count in
+    let cells-before = c .before .before .before .cells-before in
+    let memory-count = c .before .before .before .before .memory-count in
+    simp (times .ensures, times2 .ensures, times3 .ensures, place .ensures .0, port-count .ensures, cells-before .ensures .0, memory-count .ensures)
 
 pub tables-fit-spec : {M : Type 1} → statement M
 tables-fit-spec =

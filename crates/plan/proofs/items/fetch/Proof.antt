@@ -3,7 +3,7 @@ use Prim.Native.Nat.{ℕ, zero, suc, _+_, _-_, _*_, _/_, _%_, _^_, _≤_, _<_, m
 use mathlib.Core.Path.{_≡_, refl, sym, ap, ap₂, _∙_, subst}
 use lib.ListN.{length, getD, List·getD-eq-default}
 use borrow.Author.Tests.{le-ltb, lt-ltb, le-leb, lt-leb, eq-eqb, ne-eqb}
-use Rattle.plan.specs.Steps.{itemAt}
+use Rattle.plan.specs.Items.{itemAt}
 use borrow.Author.Needs.{needs}
 use Rattle.plan.proofs.items.fetch.Statement.{statement}
 use Rattle.plan.proofs.items.fetch.Tie as tie

@@ -1,6 +1,6 @@
 -- `fetch_sound` meets its contract. Assumes nothing.
 use mathlib.Core.Path.{_≡_}
-use Rattle.plan.specs.Steps.{itemAt}
+use Rattle.plan.specs.Items.{itemAt}
 use borrow.Author.Needs.{needs}
 use Rattle.plan.proofs.items.fetch_sound.Statement.{statement}
 use Rattle.plan.proofs.items.fetch_sound.Tie as tie

@@ -82,7 +82,27 @@ unfolding decode
 returns-12 c = rw (c .match .keys12)
 
 returns-13 : tie.Need-returns-13
-returns-13 c = let r = c .match .rest in sym (decode-past _ _ _ _ (above _ 14 ((((((((((((((tt, not-eight _ 0 (c .before .if1 .taken) refl), r .0 .0 .0 .0 .0 .0 .0 .0 .0 .0 .0 .1), r .0 .0 .0 .0 .0 .0 .0 .0 .0 .0 .1), r .0 .0 .0 .0 .0 .0 .0 .0 .0 .1), r .0 .0 .0 .0 .0 .0 .0 .0 .1), r .0 .0 .0 .0 .0 .0 .0 .1), r .0 .0 .0 .0 .0 .0 .1), r .0 .0 .0 .0 .0 .1), not-eight _ 8 (c .before .if1 .taken) refl), r .0 .0 .0 .0 .1), r .0 .0 .0 .1), r .0 .0 .1), r .0 .1), r .1)))
+returns-13 c =
+    let r = c .match .rest in
+    sym (decode-past _ _ _ _ (above _ 14 (
+      (
+        (
+          (
+            (
+              (
+                ((((((((tt, not-eight _ 0 (c .before .if1 .taken) refl), r .0 .0 .0 .0 .0 .0 .0 .0 .0 .0 .0 .1), r .0 .0 .0 .0 .0 .0 .0 .0 .0 .0 .1), r .0 .0 .0 .0 .0 .0 .0 .0 .0 .1), r .0 .0 .0 .0 .0 .0 .0 .0 .1), r .0 .0 .0 .0 .0 .0 .0 .1), r .0 .0 .0 .0 .0 .0 .1), r .0 .0 .0 .0 .0 .1),
+                not-eight _ 8 (c .before .if1 .taken) refl,
+              ),
+              r .0 .0 .0 .0 .1,
+            ),
+            r .0 .0 .0 .1,
+          ),
+          r .0 .0 .1,
+        ),
+        r .0 .1,
+      ),
+      r .1,
+    )))
 
 binary-item-requires : tie.Need-binary-item-requires
 binary-item-requires c κs = search needs

@@ -3,7 +3,7 @@ use Prim.Native.Nat.{ℕ, zero, suc, _+_, _-_, _*_, _/_, _%_, _^_, _≤_, _<_, m
 use mathlib.Core.Path.{_≡_, refl, sym, ap, ap₂, _∙_, subst}
 use lib.ListN.{length, getD, List·getD-eq-default}
 use borrow.Author.Tests.{le-ltb, lt-ltb, le-leb, lt-leb, eq-eqb, ne-eqb}
-use Rattle.plan.specs.Steps.{sumOf}
+use Rattle.plan.specs.Layout.{sumOf}
 use Rattle.plan.proofs.Lists.{sum-next, place-next}
 use Rattle.plan.proofs.Lists.{cells-sum, rules-sum, code-sum}
 use borrow.Author.Needs.{needs}

@@ -3,7 +3,7 @@ use Prim.Native.Nat.{ℕ, _+_, _*_, _≤_, _<_}
 use mathlib.Core.Path.{_≡_, refl, sym, ap, ap₂, _∙_}
 use mathlib.Core.List.{List}
 use lib.ListN.{getD}
-use Rattle.plan.specs.Steps.{sumOf}
+use Rattle.plan.specs.Layout.{sumOf}
 use Rattle.plan.specs.Layout.{rulesFrom, ruleCount, lengthAt, codeBefore, codeFrom}
 use Rattle.plan.proofs.Lists.{code-sum}
 use borrow.Author.Needs.{needs}
@@ -65,7 +65,11 @@ number-requires-2 c κs = search needs
 
 returns : tie.Need-returns
 unfolding lengthAt
-returns c = (begins (c .before .before .before .before .before .before .before .args .plan .now) (c .before .before .before .before .before .before .before .args .r) _ _ _ (c .before .before .before .before .before .rules-from .ensures .0) (c .before .before .before .place .ensures .0 ∙ c .before .before .before .before .number .ensures) (c .before .before .sum .ensures .0), c .number2 .ensures ∙ ap₂ (λ (n m : ℕ). getD (c .before .before .before .before .before .before .before .args .plan .now) (n + 3 + 3 * m) 0) (c .before .before .before .before .before .rules-from .ensures .0) (c .before .place2 .ensures .0))
+returns c =
+    let s = c .before .before .before .before .before .before .before in (
+      begins (s .args .plan .now) (s .args .r) _ _ _ (c .before .before .before .before .before .rules-from .ensures .0) (c .before .before .before .place .ensures .0 ∙ c .before .before .before .before .number .ensures) (c .before .before .sum .ensures .0),
+      c .number2 .ensures ∙ ap₂ (λ (n m : ℕ). getD (s .args .plan .now) (n + 3 + 3 * m) 0) (c .before .before .before .before .before .rules-from .ensures .0) (c .before .place2 .ensures .0),
+    )
 
 pub code-at-spec : {M : Type 1} → statement M
 code-at-spec =

@@ -39,7 +39,9 @@ number-requires-2 c κs = search needs
 
 returns : tie.Need-returns
 unfolding presentAt absentAt
-returns c = (c .before .before .number .ensures ∙ ap₂ (λ (n m : ℕ). getD (c .before .before .before .before .before .args .plan .now) (n + 1 + 3 * m) 0) (c .before .before .before .before .before .pre .0) (c .before .before .before .place .ensures .0), c .number2 .ensures ∙ ap₂ (λ (n m : ℕ). getD (c .before .before .before .before .before .args .plan .now) (n + 2 + 3 * m) 0) (c .before .before .before .before .before .pre .0) (c .before .place2 .ensures .0))
+returns c =
+    let s = c .before .before .before .before .before in
+    (c .before .before .number .ensures ∙ ap₂ (λ (n m : ℕ). getD (s .args .plan .now) (n + 1 + 3 * m) 0) (s .pre .0) (c .before .before .before .place .ensures .0), c .number2 .ensures ∙ ap₂ (λ (n m : ℕ). getD (s .args .plan .now) (n + 2 + 3 * m) 0) (s .pre .0) (c .before .place2 .ensures .0))
 
 pub masks-in-spec : {M : Type 1} → statement M
 masks-in-spec =

@@ -5,7 +5,7 @@ use Prim.Native.Nat.{ℕ, zero, suc, _+_, _-_, _*_, _/_, _%_, _^_, _≤_, _<_, m
 use mathlib.Core.Path.{_≡_, refl, sym, ap, ap₂, _∙_, subst}
 use lib.ListN.{length, getD, List·getD-eq-default}
 use borrow.Author.Tests.{le-ltb, lt-ltb, le-leb, lt-leb, eq-eqb, ne-eqb}
-use Rattle.plan.specs.Steps.{sumOf}
+use Rattle.plan.specs.Layout.{sumOf}
 use Rattle.plan.proofs.Lists.{sum-next, place-next}
 use Rattle.plan.proofs.layout.sum.Statement.{statement}
 use Rattle.plan.proofs.layout.sum.Tie as tie
@@ -39,7 +39,10 @@ loop-less : tie.Need-loop-less Inv-loop μ-loop
 loop-less c = search needs
 
 loop-again : tie.Need-loop-again Inv-loop μ-loop
-loop-again c = (omega arith, place-next _ _ _ _ (c .before .before .before .loop .inv .1), omega arith, rw (sum-next (c .before .before .before .before .before .args .plan .now) (c .before .before .before .before .before .args .from) (c .before .before .before .before .before .args .step) (c .before .before .before .loop .i), ← (c .before .before .before .loop .inv .1), ← (c .before .before .before .loop .inv .3)) (ap (λ (x : ℕ). c .before .before .before .loop .total + x) (c .place .ensures .0 ∙ c .before .number .ensures)), omega arith)
+loop-again c =
+    let s = c .before .before .before .before .before in
+    let l = c .before .before .before .loop in
+    (omega arith, place-next _ _ _ _ (l .inv .1), omega arith, rw (sum-next (s .args .plan .now) (s .args .from) (s .args .step) (l .i), ← (l .inv .1), ← (l .inv .3)) (ap (λ (x : ℕ). l .total + x) (c .place .ensures .0 ∙ c .before .number .ensures)), omega arith)
 
 returns : tie.Need-returns Inv-loop μ-loop
 returns c = let e : c .before .loop .i ≡ c .before .before .before .args .n = omega arith in (rw (← e) (c .before .loop .inv .3), omega arith)

@@ -5,7 +5,7 @@ use mathlib.Core.Path.{_≡_, sym, ap, subst, _∙_}
 use mathlib.Core.List.{List}
 use Prim.Native.Nat.{ℕ, _≤_, _-_, _+_}
 use mathlib.Core.Logic.{⊎-elim}
-use Rattle.syntax.specs.Marks.{count}
+use Rattle.readers.specs.Marks.{count}
 use Rattle.syntax.specs.Marking.{Remarked, memoriesOn, nameMark}
 use Rattle.syntax.proofs.Marked.{remarked-start, remarked-word, remarked-skip}
 use Rattle.syntax.proofs.marks.mark.Statement.{statement}
@@ -95,13 +95,19 @@ loop-again c = (
   omega arith,
   omega arith,
   ⊎-elim
-      (λ w. subst (λ (l : List ℕ). Remarked (c .before .before .before .before .before .before .before .args .text .now) (memoriesOn (c .before .before .before .before .before .before .before .args .text .now) (c .before .before .before .before .before .before .before .args .tape .now) (c .before .before .before .before .before .before .before .args .n)) (c .before .before .before .loop .i + 1) (c .before .before .before .before .before .before .before .args .words .now) l) (sym (w .7)) (remarked-word (c .before .before .before .loop .inv .2) (w .0 .taken) (omega (arith, c .before .before .before .loop .inv .2 .size, c .before .before .before .before .before .before .before .pre .0 .long)) (w .2 .ensures) (w .4 .ensures) (w .6 .ensures ∙ ap (nameMark (memoriesOn (c .before .before .before .before .before .before .before .args .text .now) (c .before .before .before .before .before .before .before .args .tape .now) (c .before .before .before .before .before .before .before .args .n))) (w .5 .ensures))))
-      (λ w. subst (λ (l : List ℕ). Remarked (c .before .before .before .before .before .before .before .args .text .now) (memoriesOn (c .before .before .before .before .before .before .before .args .text .now) (c .before .before .before .before .before .before .before .args .tape .now) (c .before .before .before .before .before .before .before .args .n)) (c .before .before .before .loop .i + 1) (c .before .before .before .before .before .before .before .args .words .now) l) (sym (w .1)) (remarked-skip (c .before .before .before .loop .inv .2) (w .0 .left))) (c .if1 .came),
+      (λ w. subst (λ (l : List ℕ). Remarked (c .before .before .before .before .before .before .before .args .text .now) (memoriesOn (c .before .before .before .before .before .before .before .args .text .now) (c .before .before .before .before .before .before .before .args .tape .now) (c .before .before .before .before .before .before .before .args .n))
+      (c .before .before .before .loop .i + 1) (c .before .before .before .before .before .before .before .args .words .now) l) (sym (w .7))
+      (remarked-word (c .before .before .before .loop .inv .2) (w .0 .taken) (omega (arith, c .before .before .before .loop .inv .2 .size, c .before .before .before .before .before .before .before .pre .0 .long)) (w .2 .ensures) (w .4 .ensures)
+      (w .6 .ensures ∙ ap (nameMark (memoriesOn (c .before .before .before .before .before .before .before .args .text .now) (c .before .before .before .before .before .before .before .args .tape .now) (c .before .before .before .before .before .before .before .args .n))) (w .5 .ensures))))
+      (λ w. subst (λ (l : List ℕ). Remarked (c .before .before .before .before .before .before .before .args .text .now) (memoriesOn (c .before .before .before .before .before .before .before .args .text .now) (c .before .before .before .before .before .before .before .args .tape .now) (c .before .before .before .before .before .before .before .args .n))
+      (c .before .before .before .loop .i + 1) (c .before .before .before .before .before .before .before .args .words .now) l) (sym (w .1)) (remarked-skip (c .before .before .before .loop .inv .2) (w .0 .left))) (c .if1 .came),
 )
 
 returns : tie.Need-returns Inv-loop μ-loop
 unfolding count
-returns c = let e : c .before .loop .i ≡ count (c .before .before .before .before .before .args .words .now) = omega (arith, c .before .before .wide .ensures) in subst (λ (i : ℕ). Remarked (c .before .before .before .before .before .args .text .now) (memoriesOn (c .before .before .before .before .before .args .text .now) (c .before .before .before .before .before .args .tape .now) (c .before .before .before .before .before .args .n)) i (c .before .before .before .before .before .args .words .now) (c .before .loop .words)) e (c .before .loop .inv .2)
+returns c = let e : c .before .loop .i ≡ count (c .before .before .before .before .before .args .words .now) = omega (arith, c .before .before .wide .ensures) in
+    subst (λ (i : ℕ). Remarked (c .before .before .before .before .before .args .text .now) (memoriesOn (c .before .before .before .before .before .args .text .now) (c .before .before .before .before .before .args .tape .now) (c .before .before .before .before .before .args .n)) i (c .before .before .before .before .before .args .words .now)
+    (c .before .loop .words)) e (c .before .loop .inv .2)
 
 pub mark-spec : {M : Type 1} → statement M
 mark-spec =

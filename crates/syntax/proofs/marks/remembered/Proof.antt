@@ -45,7 +45,10 @@ stands-requires : tie.Need-stands-requires Inv-loop μ-loop
 stands-requires c κs = search needs
 
 returns : tie.Need-returns Inv-loop μ-loop
-returns c = memory-here (c .before .before .before .before .before .before .before .before .before .before .args .text .now) (c .before .before .before .before .before .before .before .before .before .before .args .tape .now) (c .before .before .before .before .before .before .before .before .before .before .args .name .now) (c .before .before .before .before .before .before .before .before .before .before .args .n) (c .before .before .before .before .before .before .before .loop .k) (omega arith) (omega (arith, c .before .before .before .before .before .before .before .before .before .before .pre)) (c .before .before .before .before .if1 .taken) (ap (λ (p : ℕ). same (span nameByte (drop p (c .before .before .before .before .before .before .before .before .before .before .args .text .now))) (c .before .before .before .before .before .before .before .before .before .before .args .name .now)) (sym (c .before .before .wide .ensures)) ∙ sym (c .before .stands .ensures) ∙ c .if2 .taken) ∙ c .before .before .before .before .before .before .before .loop .inv .1
+returns c = memory-here (c .before .before .before .before .before .before .before .before .before .before .args .text .now) (c .before .before .before .before .before .before .before .before .before .before .args .tape .now) (c .before .before .before .before .before .before .before .before .before .before .args .name .now)
+    (c .before .before .before .before .before .before .before .before .before .before .args .n) (c .before .before .before .before .before .before .before .loop .k) (omega arith) (omega (arith, c .before .before .before .before .before .before .before .before .before .before .pre)) (c .before .before .before .before .if1 .taken)
+    (ap (λ (p : ℕ). same (span nameByte (drop p (c .before .before .before .before .before .before .before .before .before .before .args .text .now))) (c .before .before .before .before .before .before .before .before .before .before .args .name .now)) (sym (c .before .before .wide .ensures)) ∙ sym (c .before .stands .ensures) ∙ c .if2 .taken)
+    ∙ c .before .before .before .before .before .before .before .loop .inv .1
 
 add-k : tie.Need-add-k Inv-loop μ-loop
 add-k c = search needs
@@ -57,8 +60,11 @@ loop-again : tie.Need-loop-again Inv-loop μ-loop
 loop-again c = (
   omega arith,
   ⊎-elim
-      (λ w. sym (memory-next (c .before .before .before .before .before .before .args .text .now) (c .before .before .before .before .before .before .args .tape .now) (c .before .before .before .before .before .before .args .name .now) (c .before .before .before .before .before .before .args .n) (c .before .before .before .loop .k) (omega arith) (omega (arith, c .before .before .before .before .before .before .pre)) (w .0 .taken) (ap (λ (p : ℕ). same (span nameByte (drop p (c .before .before .before .before .before .before .args .text .now))) (c .before .before .before .before .before .before .args .name .now)) (sym (w .2 .ensures)) ∙ sym (w .3 .ensures) ∙ w .4 .left)) ∙ c .before .before .before .loop .inv .1)
-      (λ w. sym (memory-none (c .before .before .before .before .before .before .args .text .now) (c .before .before .before .before .before .before .args .tape .now) (c .before .before .before .before .before .before .args .name .now) (c .before .before .before .before .before .before .args .n) (c .before .before .before .loop .k) (omega arith) (omega (arith, c .before .before .before .before .before .before .pre)) (w .left)) ∙ c .before .before .before .loop .inv .1) (c .if1 .came),
+      (λ w. sym (memory-next (c .before .before .before .before .before .before .args .text .now) (c .before .before .before .before .before .before .args .tape .now) (c .before .before .before .before .before .before .args .name .now) (c .before .before .before .before .before .before .args .n) (c .before .before .before .loop .k) (omega arith)
+      (omega (arith, c .before .before .before .before .before .before .pre)) (w .0 .taken) (ap (λ (p : ℕ). same (span nameByte (drop p (c .before .before .before .before .before .before .args .text .now))) (c .before .before .before .before .before .before .args .name .now)) (sym (w .2 .ensures)) ∙ sym (w .3 .ensures) ∙ w .4 .left))
+      ∙ c .before .before .before .loop .inv .1)
+      (λ w. sym (memory-none (c .before .before .before .before .before .before .args .text .now) (c .before .before .before .before .before .before .args .tape .now) (c .before .before .before .before .before .before .args .name .now) (c .before .before .before .before .before .before .args .n) (c .before .before .before .loop .k) (omega arith)
+      (omega (arith, c .before .before .before .before .before .before .pre)) (w .left)) ∙ c .before .before .before .loop .inv .1) (c .if1 .came),
 )
 
 returns-2 : tie.Need-returns-2 Inv-loop μ-loop

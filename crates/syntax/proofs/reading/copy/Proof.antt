@@ -5,7 +5,7 @@ use mathlib.Core.Path.{_≡_, ap, _∙_}
 use Prim.Native.Nat.{ℕ, _≤_, _-_}
 use lib.ListN.{take}
 use lib.Seq.{sets}
-use Rattle.syntax.specs.Meets.{On}
+use Rattle.readers.specs.Meets.{On}
 use Rattle.syntax.proofs.Whole.{on-start, on-next}
 use Rattle.syntax.proofs.reading.copy.Statement.{statement}
 use Rattle.syntax.proofs.reading.copy.Tie as tie

@@ -1,8 +1,8 @@
 -- `syntax::reading::ending` meets its contract. Assumes nothing.
 use native.Mathlib.Omega.{arith}
-use Rattle.syntax.specs.Marks.{count}
-use Rattle.syntax.proofs.Laws.{stands}
-use Rattle.syntax.proofs.Spells.{closed-at, closed-bad}
+use Rattle.readers.specs.Marks.{count}
+use Rattle.readers.proofs.Laws.{stands}
+use Rattle.readers.proofs.Spells.{closed-at, closed-bad}
 use Rattle.syntax.proofs.Whole.{judged-end, judged-more, judged-bad, ending-at, ending-bad}
 use borrow.Author.Needs.{needs}
 use Rattle.syntax.proofs.reading.ending.Statement.{statement}
@@ -27,7 +27,8 @@ returns : tie.Need-returns
 unfolding count
 returns c = let v = closed-at (omega arith) (c .before .before .before .before .x .given .1) (c .before .before .before .before .before .before .closed .ensures) (c .before .before .before .before .before .before .before .constraint .ensures .moved) in record {
   moved = omega arith;
-  judged = λ M f h hd e on. judged-end (ending-at M f (c .before .before .before .before .before .before .before .before .before .args .at) hd e on (c .before .before .before .before .x .given .1) (c .before .before .before .before .before .before .closed .ensures) (c .before .before .before .before .before .before .before .constraint .ensures .agrees M f (omega (arith, h)))) (omega (arith, M .many, c .before .wide .ensures));
+  judged = λ M f h hd e on. judged-end (ending-at M f (c .before .before .before .before .before .before .before .before .before .args .at) hd e on (c .before .before .before .before .x .given .1) (c .before .before .before .before .before .before .closed .ensures)
+      (c .before .before .before .before .before .before .before .constraint .ensures .agrees M f (omega (arith, h)))) (omega (arith, M .many, c .before .wide .ensures));
 }
 
 enum-known-i : tie.Need-enum-known-i
@@ -37,7 +38,8 @@ returns-2 : tie.Need-returns-2
 unfolding count
 returns-2 c = let v = closed-at (omega arith) (c .before .before .before .before .x .given .1) (c .before .before .before .before .before .before .closed .ensures) (c .before .before .before .before .before .before .before .constraint .ensures .moved) in record {
   moved = omega arith;
-  judged = λ M f h hd e on. judged-more (ending-at M f (c .before .before .before .before .before .before .before .before .before .args .at) hd e on (c .before .before .before .before .x .given .1) (c .before .before .before .before .before .before .closed .ensures) (c .before .before .before .before .before .before .before .constraint .ensures .agrees M f (omega (arith, h)))) (omega (arith, M .many, c .before .wide .ensures, v));
+  judged = λ M f h hd e on. judged-more (ending-at M f (c .before .before .before .before .before .before .before .before .before .args .at) hd e on (c .before .before .before .before .x .given .1) (c .before .before .before .before .before .before .closed .ensures)
+      (c .before .before .before .before .before .before .before .constraint .ensures .agrees M f (omega (arith, h)))) (omega (arith, M .many, c .before .wide .ensures, v));
 }
 
 returns-3 : tie.Need-returns-3

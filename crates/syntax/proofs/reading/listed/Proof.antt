@@ -28,10 +28,15 @@ parsed-requires : tie.Need-parsed-requires
 parsed-requires c κs = listed-filed (c .before .before .before .before .before .before .before .before .before .pre)
 
 returns : tie.Need-returns
-returns c = let e = c .before .before .before .left-out .ensures ∙ ap (λ (n : ℕ). placeTold (earliest (leftIn (c .before .before .before .before .before .before .before .before .args .words .now) 0 n))) (c .before .before .before .before .wide .ensures) in (left-said (c .before .before .before .before .before .before .before .before .pre) e (c .before .p .given .1), (left-after (c .before .before .before .before .before .before .before .before .pre) e _ (c .before .p .given .1), tt))
+returns c = let e = c .before .before .before .left-out .ensures ∙ ap (λ (n : ℕ). placeTold (earliest (leftIn (c .before .before .before .before .before .before .before .before .args .words .now) 0 n))) (c .before .before .before .before .wide .ensures) in
+    (left-said (c .before .before .before .before .before .before .before .before .pre) e (c .before .p .given .1), (left-after (c .before .before .before .before .before .before .before .before .pre) e _ (c .before .p .given .1), tt))
 
 returns-2 : tie.Need-returns-2
-returns-2 c = let e = c .before .before .before .before .before .left-out .ensures ∙ ap (λ (n : ℕ). placeTold (earliest (leftIn (c .before .before .before .before .before .before .before .before .before .before .args .words .now) 0 n))) (c .before .before .before .before .before .before .wide .ensures) in (c .parsed .ensures .answer (listed-held (c .before .before .before .before .before .before .before .before .before .before .pre)) ∙ kept-said (c .before .before .before .before .before .before .before .before .before .before .pre) e (c .before .before .before .enum-told .given .1), (c .parsed .ensures .tape (listed-held (c .before .before .before .before .before .before .before .before .before .before .pre)) ∙ kept-after (c .before .before .before .before .before .before .before .before .before .before .pre) e _ (c .before .before .before .enum-told .given .1), c .parsed .ensures .room))
+returns-2 c = let e = c .before .before .before .before .before .left-out .ensures ∙ ap (λ (n : ℕ). placeTold (earliest (leftIn (c .before .before .before .before .before .before .before .before .before .before .args .words .now) 0 n))) (c .before .before .before .before .before .before .wide .ensures) in (
+  c .parsed .ensures .answer (listed-held (c .before .before .before .before .before .before .before .before .before .before .pre))
+      ∙ kept-said (c .before .before .before .before .before .before .before .before .before .before .pre) e (c .before .before .before .enum-told .given .1),
+  (c .parsed .ensures .tape (listed-held (c .before .before .before .before .before .before .before .before .before .before .pre)) ∙ kept-after (c .before .before .before .before .before .before .before .before .before .before .pre) e _ (c .before .before .before .enum-told .given .1), c .parsed .ensures .room),
+)
 
 pub listed-spec : {M : Type 1} → statement M
 listed-spec =

@@ -1,7 +1,7 @@
 -- `syntax::reading::place_or` meets its contract. Assumes nothing.
 use native.Mathlib.Omega.{arith}
 use mathlib.Core.Path.{_∙_}
-use Rattle.syntax.specs.Marks.{count}
+use Rattle.readers.specs.Marks.{count}
 use Rattle.syntax.proofs.Whole.{place-here, place-end}
 use borrow.Author.Needs.{needs}
 use Rattle.syntax.proofs.reading.place_or.Statement.{statement}

@@ -1,7 +1,7 @@
 -- `syntax::reading::tree` meets its contract. Assumes nothing.
 use native.Mathlib.Omega.{arith}
 use mathlib.Core.Path.{refl}
-use Rattle.syntax.proofs.Laws.{moved-at, moved-bad, moved-more}
+use Rattle.readers.proofs.Laws.{moved-at, moved-bad, moved-more}
 use Rattle.syntax.proofs.Marked.{held-again, same-count}
 use Rattle.syntax.proofs.Whole.{head-taped, judged-tree, judged-head, moved-same}
 use borrow.Author.Needs.{needs}
@@ -15,7 +15,11 @@ enum-known-x : tie.Need-enum-known-x
 enum-known-x c = search needs
 
 mark-requires : tie.Need-mark-requires
-mark-requires c κs = (c .before .before .before .before .before .before .before .before .before .pre .0 .table, head-taped (c .before .before .before .before .before .before .before .before .before .pre .0 .held) (c .before .before .before .before .before .before .before .before .before .pre .0 .marked) (c .before .before .before .before .before .before .before .before .before .pre .0 .table .few) (c .before .before .before .before .before .before .before .before .before .pre .1 .long) (c .before .before .before .before .before .head .ensures) (c .before .before .before .x .given .1))
+mark-requires c κs = (
+  c .before .before .before .before .before .before .before .before .before .pre .0 .table,
+  head-taped (c .before .before .before .before .before .before .before .before .before .pre .0 .held) (c .before .before .before .before .before .before .before .before .before .pre .0 .marked) (c .before .before .before .before .before .before .before .before .before .pre .0 .table .few)
+      (c .before .before .before .before .before .before .before .before .before .pre .1 .long) (c .before .before .before .before .before .head .ensures) (c .before .before .before .x .given .1),
+)
 
 ending-requires : tie.Need-ending-requires
 ending-requires c κs = let v = moved-at (c .before .before .before .before .before .before .x .given .1) (c .before .before .before .before .before .before .before .before .head .ensures .moved) in let e = same-count (c .before .before .mark .ensures) in omega (arith, c .before .before .before .before .before .before .before .before .before .before .before .before .pre .0 .table .few)
@@ -28,7 +32,8 @@ returns c = record {
   moved = moved-more (moved-at (c .before .before .before .before .before .before .before .x .given .1) (c .before .before .before .before .before .before .before .before .before .head .ensures .moved)) (moved-same (same-count (c .before .before .before .mark .ensures)) (c .ending .ensures .moved));
   counted = same-count (c .before .before .before .mark .ensures);
   held = λ H. held-again (c .before .before .before .mark .ensures) H;
-  judged = λ H M. judged-tree H M (c .before .before .before .before .before .before .before .before .before .before .before .before .before .pre .0 .table .few) (c .before .before .before .before .before .before .before .before .before .before .before .before .before .pre .1 .long) (c .before .before .before .before .before .before .before .before .before .head .ensures) (c .before .before .before .before .before .before .before .x .given .1) (c .before .before .before .mark .ensures) (c .ending .ensures);
+  judged = λ H M. judged-tree H M (c .before .before .before .before .before .before .before .before .before .before .before .before .before .pre .0 .table .few) (c .before .before .before .before .before .before .before .before .before .before .before .before .before .pre .1 .long)
+      (c .before .before .before .before .before .before .before .before .before .head .ensures) (c .before .before .before .before .before .before .before .x .given .1) (c .before .before .before .mark .ensures) (c .ending .ensures);
 }
 
 returns-2 : tie.Need-returns-2

@@ -1,5 +1,4 @@
 -- `finished` meets its contract. Assumes nothing.
-use mathlib.Core.Path.{_≡_, sym, ap, _∙_}
 use Rattle.tipi.proofs.Finishing.{sizes-refused, presence-refused, sum-fits, made-told}
 use borrow.Author.Needs.{needs}
 use Rattle.tipi.proofs.plans.finished.Statement.{statement}
@@ -36,19 +35,29 @@ slice-aggregate-made-2 : tie.Need-slice-aggregate-made-2
 slice-aggregate-made-2 c = search needs
 
 made-requires : tie.Need-made-requires
-made-requires c κs = let h = c .before .before .before .before .before .before .before .before .before .before .before .before .before .before .before .before .before .pre .1 .2 in (c .before .before .before .before .before .before .before .before .before .before .before .before .before .before .before .before .before .pre .0 .1, c .before .before .before .before .before .before .before .before .before .before .before .before .before .before .before .before .before .pre .0 .2, search needs, sum-fits h (c .before .before .before .before .before .before .before .before .before .before .fault .ensures .0) (c .before .before .before .before .before .fault2 .ensures (c .before .before .before .before .before .before .before .before .before .before .before .before .before .before .before .before .before .pre .1 .0) (c .before .before .before .before .before .before .before .before .before .before .before .before .before .before .before .before .before .pre .1 .1 .actor) (h .tells)) (c .before .before .before .before .before .before .enum-told .given .1) (c .before .before .before .enum-told2 .given .1) _ _ _ (c .before .before .before .before .before .before .before .before .before .before .fault .ensures .1 .0) (c .before .before .before .before .before .before .before .before .before .before .fault .ensures .1 .1), search needs)
+made-requires c κs =
+    let a = c .before .before .before .before .before .before .before .before .before .before .before .before .before .before .before in
+    let h = a .pre .1 .2 in
+    let f = c .before .before .before .before .before .before .before .before .before .before .fault .ensures in
+    let g = sum-fits h (f .0) (c .before .before .before .before .before .fault2 .ensures) (c .before .before .before .before .before .before .enum-told .given .1) (c .before .before .before .enum-told2 .given .1) _ _ _ (f .1 .0) (f .1 .1) in
+    (a .pre .0 .0, a .pre .0 .1, search needs, g, search needs)
 
 returns : tie.Need-returns
 returns c = λ ws s h. sizes-refused h (c .before .before .before .before .before .fault .ensures .0) _ (c .before .p .given .1)
 
 returns-2 : tie.Need-returns-2
-returns-2 c = λ ws s h. presence-refused h (c .before .before .before .before .before .before .before .before .fault .ensures .0) (c .before .before .before .fault2 .ensures ws (s .actor) (h .tells)) (c .before .before .before .before .enum-told .given .1) _ (c .before .p2 .given .1)
+returns-2 c = λ ws s h. presence-refused h (c .before .before .before .before .before .before .before .before .fault .ensures .0) (c .before .before .before .fault2 .ensures) (c .before .before .before .before .enum-told .given .1) _ (c .before .p2 .given .1)
 
 same-length : tie.Need-same-length
 same-length c = search needs
 
 returns-3 : tie.Need-returns-3
-returns-3 c = λ ws s h. made-told h (c .before .before .before .before .before .before .before .before .before .before .before .before .before .fault .ensures .0) (c .before .before .before .before .before .before .before .before .fault2 .ensures ws (s .actor) (h .tells)) (c .before .before .before .before .before .before .before .before .before .enum-told .given .1) (c .before .before .before .before .before .before .enum-told2 .given .1) _ _ _ (c .before .before .before .before .before .before .before .before .before .before .before .before .before .fault .ensures .1 .0) (c .before .before .before .before .before .before .before .before .before .before .before .before .before .fault .ensures .1 .1) (c .before .before .made .ensures .0) (c .before .before .made .ensures .1)
+returns-3 c =
+    let f = c .before .before .before .before .before .before .before .before .before .before .before .before .before .fault .ensures in
+    let m = c .before .before .made .ensures in
+    let n = c .before .before .before .before .before .before .before .before .before .enum-told .given .1 in
+    let o = c .before .before .before .before .before .before .enum-told2 .given .1 in
+    λ ws s h. made-told h (f .0) (c .before .before .before .before .before .before .before .before .fault2 .ensures) n o _ _ _ (f .1 .0) (f .1 .1) (m .0) (m .1)
 
 pub finished-spec : {M : Type 1} → statement M
 finished-spec =

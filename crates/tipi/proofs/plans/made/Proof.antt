@@ -3,7 +3,7 @@ use native.Mathlib.Omega.{arith}
 use mathlib.Core.Path.{_≡_, sym, ap, _∙_}
 use Prim.Native.Nat.{_*_}
 use lib.ListN.{take}
-use Rattle.making.specs.Made.{itemsOf}
+use Rattle.row13_plan.specs.Made.{itemsOf}
 use Rattle.tipi.proofs.Finishing.{sayMade, made-said, made-tabled}
 use borrow.Author.Needs.{needs}
 use Rattle.tipi.proofs.plans.made.Statement.{statement}

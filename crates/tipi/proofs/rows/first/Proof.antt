@@ -8,7 +8,7 @@ use Rattle.tipi.proofs.rows.first.Statement.{statement}
 use Rattle.tipi.proofs.rows.first.Tie as tie
 
 fault-requires : tie.Need-fault-requires
-fault-requires c κs = (c .before .before .before .before .pre .0 .0, (c .before .before .before .before .pre .1 .0, c .before .before .before .before .pre .1 .1, c .before .before .before .before .pre .1 .3 .tells))
+fault-requires c κs = c .before .before .before .before .pre .0 .0
 
 enum-known-p : tie.Need-enum-known-p
 enum-known-p c = search needs

@@ -3,7 +3,7 @@ use mathlib.Core.Path.{refl, sym}
 use native.Mathlib.Omega.{arith}
 use lib.ListN.{length, length-take}
 use lib.Seq.{length-take-le}
-use Rattle.tipirun.proofs.Bytes.{renamed}
+use Rattle.figures.proofs.Bytes.{renamed}
 use Rattle.tipirun.proofs.Stages.{ended-through, ended-refused, ended-bad}
 use borrow.Author.Needs.{needs}
 use Rattle.tipirun.proofs.stops.ended.Statement.{statement}

@@ -5,8 +5,8 @@ use mathlib.Core.List.{List, [], _∷_, _++_}
 use Prim.Native.Nat.{ℕ, _+_, _-_, _*_, _≤_, _<_}
 use native.Mathlib.Omega.{arith}
 use lib.ListN.{length, drop}
-use Rattle.tipirun.specs.Written.{blanked}
-use Rattle.tipirun.proofs.Bytes.{Rest, rest-start, rest-more, rest-end, blanked-next, blanked-over, fewer, some-left}
+use Rattle.figures.specs.Written.{blanked}
+use Rattle.figures.proofs.Bytes.{Rest, rest-start, rest-more, rest-end, blanked-next, blanked-over, fewer, some-left}
 use Rattle.tipirun.proofs.stops.numbers_from.Statement.{statement}
 use Rattle.tipirun.proofs.stops.numbers_from.Tie as tie
 

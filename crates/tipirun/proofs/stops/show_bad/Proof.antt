@@ -1,7 +1,7 @@
 -- `show_bad` meets its contract. Assumes nothing.
 use native.Mathlib.Omega.{arith}
 use lib.ListN.{length-set}
-use Rattle.tipirun.proofs.Bytes.{bad-written}
+use Rattle.figures.proofs.Bytes.{bad-written}
 use borrow.Author.Needs.{needs}
 use Rattle.tipirun.proofs.stops.show_bad.Statement.{statement}
 use Rattle.tipirun.proofs.stops.show_bad.Tie as tie

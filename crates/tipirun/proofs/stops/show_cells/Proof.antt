@@ -1,7 +1,7 @@
 -- `show_cells` meets its contract. Assumes nothing.
 use native.Mathlib.Omega.{arith}
 use lib.ListN.{length, length-drop}
-use Rattle.tipirun.proofs.Bytes.{both, renamed, room-left, line-none, line-some}
+use Rattle.figures.proofs.Bytes.{both, renamed, room-left, line-none, line-some}
 use borrow.Author.Needs.{needs}
 use Rattle.tipirun.proofs.stops.show_cells.Statement.{statement}
 use Rattle.tipirun.proofs.stops.show_cells.Tie as tie

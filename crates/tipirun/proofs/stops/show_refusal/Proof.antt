@@ -1,6 +1,6 @@
 -- `show_refusal` meets its contract. Assumes nothing.
 use native.Mathlib.Omega.{arith}
-use Rattle.tipirun.proofs.Bytes.{both, named, line-two}
+use Rattle.figures.proofs.Bytes.{both, named, line-two}
 use borrow.Author.Needs.{needs}
 use Rattle.tipirun.proofs.stops.show_refusal.Statement.{statement}
 use Rattle.tipirun.proofs.stops.show_refusal.Tie as tie

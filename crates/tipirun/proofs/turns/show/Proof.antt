@@ -1,6 +1,6 @@
 -- `show` meets its contract. Assumes nothing.
 use native.Mathlib.Omega.{arith}
-use Rattle.tipirun.proofs.Bytes.{both, renamed}
+use Rattle.figures.proofs.Bytes.{both, renamed}
 use Rattle.tipirun.proofs.Cycles.{shown-refused, shown-whole}
 use borrow.Author.Needs.{needs}
 use Rattle.tipirun.proofs.turns.show.Statement.{statement}

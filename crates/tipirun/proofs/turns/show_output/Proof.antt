@@ -1,6 +1,6 @@
 -- `show_output` meets its contract. Assumes nothing.
 use native.Mathlib.Omega.{arith}
-use Rattle.tipirun.proofs.Bytes.{renamed}
+use Rattle.figures.proofs.Bytes.{renamed}
 use Rattle.tipirun.proofs.Cycles.{output-none, output-some}
 use borrow.Author.Needs.{needs}
 use Rattle.tipirun.proofs.turns.show_output.Statement.{statement}

@@ -4,9 +4,9 @@ use mathlib.Core.Path.{_≡_, refl, ap}
 use Prim.Native.Nat.{ℕ, _+_, _-_, _*_, _≤_, _<_}
 use native.Mathlib.Omega.{arith}
 use lib.ListN.{length, getD}
-use Rattle.tipirun.specs.Written.{blanked}
+use Rattle.figures.specs.Written.{blanked}
 use Rattle.tipirun.specs.Lines.{portsOf, outputsFrom}
-use Rattle.tipirun.proofs.Bytes.{Rest, rest-more, rest-end}
+use Rattle.figures.proofs.Bytes.{Rest, rest-more, rest-end}
 use Rattle.tipirun.proofs.Cycles.{outputs-start, outputs-next, outputs-over}
 use Rattle.tipirun.proofs.turns.show_outputs.Statement.{statement}
 use Rattle.tipirun.proofs.turns.show_outputs.Tie as tie

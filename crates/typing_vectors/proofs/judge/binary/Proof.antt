@@ -1,6 +1,6 @@
 -- `typing_vectors::judge::binary` meets its contract. Assumes nothing.
 use native.Mathlib.Nat.{lt-irrefl}
-use Rattle.typing.specs.Terms.{minus}
+use Rattle.type_value.specs.Terms.{minus}
 use Rattle.typing_vectors.proofs.Judging.{minus-judged, plus-or-greater}
 use borrow.Author.Needs.{needs}
 use Rattle.typing_vectors.proofs.judge.binary.Statement.{statement}

@@ -6,7 +6,7 @@ use native.Mathlib.Nat.{le-refl}
 use native.Mathlib.Omega.{arith}
 use lib.Dec.{lit≤}
 use lib.ListN.{length}
-use Rattle.typing.specs.Walk.{part}
+use Rattle.type_value.specs.Walk.{part}
 use Rattle.typing_vectors.specs.Judged.{codes, Held}
 use Rattle.typing_vectors.proofs.Holding.{part-longer, part-empty, whole}
 use Rattle.typing_vectors.proofs.judge.sound.Statement.{statement}

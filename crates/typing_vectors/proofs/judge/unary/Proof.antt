@@ -1,6 +1,6 @@
 -- `typing_vectors::judge::unary` meets its contract. Assumes nothing.
 use native.Mathlib.Nat.{lt-irrefl}
-use Rattle.typing.specs.Terms.{log}
+use Rattle.type_value.specs.Terms.{log}
 use Rattle.typing_vectors.proofs.Judging.{log-judged, floor-or-ceil}
 use borrow.Author.Needs.{needs}
 use Rattle.typing_vectors.proofs.judge.unary.Statement.{statement}

@@ -1,0 +1,2 @@
+pub mod Logs
+pub mod Compare

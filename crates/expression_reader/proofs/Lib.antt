@@ -1,0 +1,2 @@
+mod Levels
+mod Operands

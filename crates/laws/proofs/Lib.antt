@@ -1,0 +1,2 @@
+-- What several crates' proofs share.
+pub mod Tables

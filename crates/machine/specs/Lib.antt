@@ -1,0 +1,5 @@
+pub mod Fires
+pub mod Machine
+pub mod Ready
+pub mod Safety
+pub mod Tables

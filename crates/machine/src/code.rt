@@ -1,0 +1,127 @@
+// The code of a sound rule, item by item, and the rules that fire, one after the other.
+ghost use mathlib.Core.Path.{_≡_};
+ghost use mathlib.Core.Bool.{false};
+ghost use mathlib.Core.List.{[]};
+ghost use Prim.Native.Nat.{ℕ, _<_};
+ghost use lib.ListN.{length, getD};
+ghost use Rattle.plan.specs.Layout.{portCount};
+ghost use Rattle.machine.specs.Machine.{state, execAll, execRules};
+ghost use Rattle.machine.specs.Fires.{Fires, ruleRun};
+ghost use Rattle.machine.specs.Ready.{Buffered};
+ghost use Rattle.machine.specs.Tables.{Tables};
+ghost use Rattle.machine.specs.Safety.{Ran, Held, RanFrom, SafeItems, itemsFrom};
+use crate::steps::step;
+use plan::code_at;
+use plan::fetch_sound;
+use plan::place;
+
+// Some items from a place of the plan on; whether a cell is written twice by now.
+fn run_items(
+    plan: &[u32],
+    values: &[u64],
+    memory: &[u64],
+    outputs: &mut [u64],
+    stack: &mut [u64],
+    slots: &mut [u64],
+    next: &mut [u64],
+    changed: &mut [u32],
+    from: usize,
+    items: usize,
+    clash: bool,
+) -> bool
+    requires { ⌜ SafeItems (now plan) (now values) (now memory) (now slots) (now outputs) from items ⌝ }
+    requires { ⌜ Tables (now memory) (now stack) (now next) (now changed) × Held (now memory) (now next) (now changed) clash ⌝ }
+    ensures { λ r. ⌜ RanFrom (now (memory .entry)) (now (next .entry)) (now (changed .entry)) clash (λ qs. execAll (now (values .entry)) (now (memory .entry)) (itemsFrom (now (plan .entry)) from items) (state [] (now (slots .entry)) (now (outputs .entry)) qs)) (now (outputs .exit)) (now (next .exit)) (now (changed .exit)) r ⌝ }
+{
+    let end = from + 4 * items;
+    let mut n = 0usize;
+    let mut twice = clash;
+    let mut at = from;
+    while at < end {
+        let left = step(
+            fetch_sound(plan, at),
+            values,
+            memory,
+            stack,
+            slots,
+            outputs,
+            next,
+            changed,
+            n,
+            twice,
+        );
+        n = left.waits;
+        twice = left.clash;
+        at += 4;
+    }
+    twice
+}
+
+// A rule's code, with slots of its own.
+fn run_rule(
+    plan: &[u32],
+    r: u32,
+    values: &[u64],
+    memory: &[u64],
+    outputs: &mut [u64],
+    stack: &mut [u64],
+    next: &mut [u64],
+    changed: &mut [u32],
+    clash: bool,
+) -> bool
+    requires { ⌜ Fires (now plan) (now values) (now memory) r × (length (now outputs) ≡ portCount (now plan)) ⌝ }
+    requires { ⌜ Tables (now memory) (now stack) (now next) (now changed) × Held (now memory) (now next) (now changed) clash ⌝ }
+    ensures { λ x. ⌜ RanFrom (now (memory .entry)) (now (next .entry)) (now (changed .entry)) clash (ruleRun (now (plan .entry)) (now (values .entry)) (now (memory .entry)) r (now (outputs .entry))) (now (outputs .exit)) (now (next .exit)) (now (changed .exit)) x ⌝ }
+{
+    let mut slots = [0u64; plan::SLOTS];
+    let code = code_at(plan, r);
+    let items = place(code.length) / 4;
+    run_items(
+        plan,
+        values,
+        memory,
+        outputs,
+        stack,
+        &mut slots,
+        next,
+        changed,
+        code.from,
+        items,
+        clash,
+    )
+}
+
+// The rules that fire, one after the other.
+pub fn run_rules(
+    plan: &[u32],
+    fired: &[u32],
+    values: &[u64],
+    memory: &[u64],
+    outputs: &mut [u64],
+    stack: &mut [u64],
+    next: &mut [u64],
+    changed: &mut [u32],
+) -> bool
+    requires { ⌜ ((j : ℕ) → j < length (now fired) → Fires (now plan) (now values) (now memory) (getD (now fired) j 0)) ⌝ }
+    requires { ⌜ length (now outputs) ≡ portCount (now plan) ⌝ }
+    requires { ⌜ Tables (now memory) (now stack) (now next) (now changed) × Buffered (now memory) (now next) (now changed) false [] ⌝ }
+    ensures { λ x. ⌜ Ran (now (memory .entry)) (now (outputs .exit)) (now (next .exit)) (now (changed .exit)) x (execRules (now (plan .entry)) (now (values .entry)) (now (memory .entry)) (now (fired .entry)) (state [] [] (now (outputs .entry)) [])) ⌝ }
+{
+    let mut clash = false;
+    let mut j = 0usize;
+    while j < fired.len() {
+        clash = run_rule(
+            plan,
+            fired[j],
+            values,
+            memory,
+            outputs,
+            stack,
+            next,
+            changed,
+            clash,
+        );
+        j += 1;
+    }
+    clash
+}

@@ -1,0 +1,63 @@
+// The code of the rules that fire, over tables that nobody sees.
+// What comes in: a sound plan, the rules that fire, values, memory. What goes out: the outputs, the
+// cells as they will be, and whether a cell was written twice.
+mod code;
+mod steps;
+mod tables;
+
+use code::run_rules;
+ghost use Prim.Native.Nat.{ℕ, _≤_, _<_};
+ghost use lib.ListN.{length, getD};
+ghost use Rattle.plan.specs.Layout.{portCount, groupCount};
+ghost use Rattle.machine.specs.Fires.{Fires, FiredRan};
+ghost use Rattle.machine.specs.Tables.{Tables};
+use plan::group_count;
+use plan::place;
+use plan::port_count;
+pub use steps::slot;
+pub use steps::wide;
+pub use tables::copy;
+use tables::prepare;
+
+const PORTS: usize = language::Plan::PORTS as usize;
+
+// What the rules leave that fire: the outputs, and whether a cell was written twice.
+pub struct Acted {
+    pub outputs: [u64; PORTS],
+    pub clash: bool,
+}
+
+// The rules that fire, one of each group, over cells and outputs that nobody sees yet.
+pub fn act(
+    plan: &[u32],
+    fired: &[u32],
+    values: &[u64],
+    memory: &[u64],
+    stack: &mut [u64],
+    next: &mut [u64],
+    changed: &mut [u32],
+) -> Acted
+    requires { ⌜ (portCount (now plan) ≤ 16) × (groupCount (now plan) ≤ length (now fired)) ⌝ }
+    requires { ⌜ Tables (now memory) (now stack) (now next) (now changed) ⌝ }
+    requires { ⌜ ((j : ℕ) → j < groupCount (now plan) → Fires (now plan) (now values) (now memory) (getD (now fired) j 0)) ⌝ }
+    ensures { λ r. ⌜ FiredRan (now (plan .entry)) (now (values .entry)) (now (memory .entry)) (now (fired .entry)) (r .outputs) (now (next .exit)) (now (changed .exit)) (r .clash) ⌝ }
+{
+    let groups = place(group_count(plan));
+    let ports = place(port_count(plan));
+    let mut outputs = [0u64; PORTS];
+    prepare(memory, next, changed);
+    let clash = run_rules(
+        plan,
+        &fired[0..groups],
+        values,
+        memory,
+        &mut outputs[0..ports],
+        stack,
+        next,
+        changed,
+    );
+    Acted {
+        outputs: outputs,
+        clash: clash,
+    }
+}

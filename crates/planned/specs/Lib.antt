@@ -1,5 +1,0 @@
-pub mod PlanOf
-pub mod Formed
-pub mod Accepted
-pub mod Lengths
-pub mod Theorems

@@ -1,0 +1,54 @@
+-- `row10_widths::codes::want_code` meets its contract: a port's width, or a memory's. Assumes nothing.
+use native.Mathlib.Omega.{arith}
+use Rattle.row10_widths.specs.Codes.{env}
+use Rattle.row10_widths.proofs.Slots.{filled-as, filled-some, port-nodes, memory-nodes}
+use borrow.Author.Needs.{needs}
+use Rattle.row10_widths.proofs.codes.want_code.Statement.{statement}
+use Rattle.row10_widths.proofs.codes.want_code.Tie as tie
+
+mul-at : tie.Need-mul-at
+mul-at c = search needs
+
+add-wide : tie.Need-add-wide
+add-wide c = search needs
+
+mul-wide : tie.Need-mul-wide
+mul-wide c = search needs
+
+add-wide-2 : tie.Need-add-wide-2
+add-wide-2 c = search needs
+
+mul-wide-2 : tie.Need-mul-wide-2
+mul-wide-2 c = search needs
+
+shared-slice-read-wide : tie.Need-shared-slice-read-wide
+shared-slice-read-wide c = search needs
+
+wide-requires : tie.Need-wide-requires
+wide-requires c κs = search needs
+
+port-code-requires : tie.Need-port-code-requires
+port-code-requires c κs = search needs
+
+same-length : tie.Need-same-length
+same-length c = search needs
+
+returns : tie.Need-returns
+returns c = filled-as (port-nodes (env (c .before .before .before .before .before .before .before .before .before .before .before .before .args .text .now) (c .before .before .before .before .before .before .before .before .before .before .before .before .args .tape .now) (c .before .before .before .before .before .before .before .before .before .before .before .before .args .btext .now) (c .before .before .before .before .before .before .before .before .before .before .before .before .args .table .now) (c .before .before .before .before .before .before .before .before .before .before .before .before .args .k) (c .before .before .before .before .before .before .before .before .before .before .before .before .args .m) (c .before .before .before .before .before .before .before .before .before .before .before .before .args .ports)) (c .before .before .before .before .before .before .before .before .before .before .before .before .args .n) (c .before .before .before .before .before .before .before .before .before .before .before .before .args .i) (c .before .before .before .before .before .before .if1 .taken) (c .before .before .before .before .wide .ensures)) (c .before .before .port-code .ensures)
+
+type-code-requires : tie.Need-type-code-requires
+type-code-requires c κs = search needs
+
+some-requires : tie.Need-some-requires
+some-requires c κs = search needs
+
+same-length-2 : tie.Need-same-length-2
+same-length-2 c = search needs
+
+returns-2 : tie.Need-returns-2
+returns-2 c = filled-some (c .before .before .before .before .before .before .type-code .ensures) (c .before .before .some .ensures) (memory-nodes (env (c .before .before .before .before .before .before .before .before .before .before .before .before .before .before .args .text .now) (c .before .before .before .before .before .before .before .before .before .before .before .before .before .before .args .tape .now) (c .before .before .before .before .before .before .before .before .before .before .before .before .before .before .args .btext .now) (c .before .before .before .before .before .before .before .before .before .before .before .before .before .before .args .table .now) (c .before .before .before .before .before .before .before .before .before .before .before .before .before .before .args .k) (c .before .before .before .before .before .before .before .before .before .before .before .before .before .before .args .m) (c .before .before .before .before .before .before .before .before .before .before .before .before .before .before .args .ports)) (c .before .before .before .before .before .before .before .before .before .before .before .before .before .before .args .n) (c .before .before .before .before .before .before .before .before .before .before .before .before .before .before .args .i) (omega arith))
+
+pub want-code-spec : {M : Type 1} → statement M
+want-code-spec =
+    tie.close (tie.spec mul-at add-wide mul-wide add-wide-2 mul-wide-2 shared-slice-read-wide wide-requires port-code-requires same-length returns
+    type-code-requires some-requires same-length-2 returns-2)

@@ -1,0 +1,12 @@
+-- `row11_sizes::effects::ends` meets its contract: the record, field by field. Assumes nothing.
+use mathlib.Core.Path.{refl}
+use Rattle.row11_sizes.specs.Effects.{endsOf}
+use Rattle.row11_sizes.proofs.effects.ends.Statement.{statement}
+use Rattle.row11_sizes.proofs.effects.ends.Tie as tie
+
+returns : tie.Need-returns
+unfolding endsOf
+returns c = refl
+
+pub ends-spec : {M : Type 1} → statement M
+ends-spec = tie.close (tie.spec returns)

@@ -1,0 +1,18 @@
+-- `row11_sizes::over::assign` meets its contract: its fault is that of its width. Assumes nothing.
+use borrow.Author.Needs.{needs}
+use Rattle.row11_sizes.specs.Effects.{assignEffect}
+use Rattle.row11_sizes.proofs.over.assign.Statement.{statement}
+use Rattle.row11_sizes.proofs.over.assign.Tie as tie
+
+fitted-requires : tie.Need-fitted-requires
+fitted-requires c κs = search needs
+
+ends-requires : tie.Need-ends-requires
+ends-requires c κs = search needs
+
+returns : tie.Need-returns
+unfolding assignEffect
+returns c = rw (c .before .fitted .ensures) at (c .ends .ensures)
+
+pub assign-spec : {M : Type 1} → statement M
+assign-spec = tie.close (tie.spec fitted-requires ends-requires returns)

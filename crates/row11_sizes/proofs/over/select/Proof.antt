@@ -1,0 +1,18 @@
+-- `row11_sizes::over::select` meets its contract: it keeps what a case selects by. Assumes nothing.
+use borrow.Author.Needs.{needs}
+use Rattle.row11_sizes.specs.Effects.{selectEffect}
+use Rattle.row11_sizes.proofs.over.select.Statement.{statement}
+use Rattle.row11_sizes.proofs.over.select.Tie as tie
+
+add-t3 : tie.Need-add-t3
+add-t3 c = search needs
+
+ends-requires : tie.Need-ends-requires
+ends-requires c κs = search needs
+
+returns : tie.Need-returns
+unfolding selectEffect
+returns c = c .ends .ensures
+
+pub select-spec : {M : Type 1} → statement M
+select-spec = tie.close (tie.spec add-t3 ends-requires returns)

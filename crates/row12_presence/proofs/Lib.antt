@@ -1,0 +1,9 @@
+pub mod Turns
+pub mod Ports
+pub mod Scopes
+pub mod Places
+pub mod Goes
+pub mod Exprs
+pub mod Actors
+pub mod Faults
+pub mod Whole

@@ -1,0 +1,3 @@
+mod Listed
+mod Stated
+mod Ruled

@@ -1,0 +1,3 @@
+pub mod States
+pub mod Rules
+pub mod Tails

@@ -1,0 +1,116 @@
+// The settled items of an actor (crate settled, specs/Settled.antt), by one walk over its tape (specs/Walk.antt), whatever stands on it.
+// What comes in: the actor's text and tape, its bindings, the widths of its ports and memories. What goes out: items of six
+// numbers, an operation, a place and four operands: names by number, types by value, in the order of the tape.
+mod items;
+mod lookup;
+mod nodes;
+mod steps;
+mod writes;
+
+use steps::begin;
+use steps::step;
+use tape::ITEMS;
+ghost use Rattle.tape.specs.Tape.{longest, mostItems};
+ghost use mathlib.Core.Path.{_≡_};
+ghost use Prim.Native.Nat.{_+_, _*_, _/_, _≤_};
+ghost use lib.ListN.{length, take, drop};
+ghost use Rattle.settle.specs.Walk.{settledOn};
+ghost use Rattle.settle.specs.Tables.{Holds};
+
+// How many items the tape has, and how many lines the bindings: of widths, and after them of values.
+pub struct Counts {
+    pub items: usize,
+    pub widths: usize,
+    pub values: usize,
+}
+
+// The types that wait: how many, and how many nodes they have together.
+pub struct Waits {
+    pub types: usize,
+    pub nodes: usize,
+}
+
+// What an item does to the types that wait: a leaf begins one, a node of one operand ends the latest, one of two joins two.
+pub enum Grows {
+    Nothing,
+    Leaf(u32),
+    End(u32),
+    Join(u32),
+}
+
+// What an item writes.
+pub enum Written {
+    Nothing,
+    Six(u32, u32, u32, u32, u32, u32),
+}
+
+// How far the walk is: the types that wait, the numbers written, from which item on the `let`s in force stand, the `val`s of
+// this rule, the size for the next memory.
+pub struct Far {
+    pub waits: Waits,
+    pub out: usize,
+    pub lets: usize,
+    pub vals: usize,
+    pub size: u32,
+}
+
+// The items of the walk, put into a table: how many numbers they are.
+fn walk(
+    text: &[u8],
+    tape: &[u32],
+    btext: &[u8],
+    table: &[u32],
+    widths: &[u32],
+    many: Counts,
+    out: &mut [u32],
+) -> usize
+    requires { ⌜ (3 * many .items ≤ length (now tape)) × (many .items ≤ mostItems) × (3 * (many .widths + many .values) ≤ length (now table)) × (6 * many .items ≤ length (now out)) ⌝ }
+    ensures { λ r. ⌜ Holds (settledOn (now (text .entry)) (now (tape .entry)) (many .items) (now (btext .entry)) (now (table .entry)) (many .widths) (many .values) (now (widths .entry))) r (now (out .entry)) (now (out .exit)) ⌝ }
+{
+    let mut code = [0u32; ITEMS];
+    let mut starts = [0usize; ITEMS];
+    let mut far = begin();
+    let mut i = 0;
+    while i < many.items {
+        far = step(
+            text,
+            tape,
+            btext,
+            table,
+            widths,
+            many,
+            i,
+            &mut code,
+            &mut starts,
+            out,
+            far,
+        );
+        i += 1;
+    }
+    far.out
+}
+
+// The settled items of the actor on the first n numbers of the tape: how many numbers they are.
+pub fn settled(
+    text: &[u8],
+    tape: &[u32],
+    n: usize,
+    btext: &[u8],
+    table: &[u32],
+    k: usize,
+    m: usize,
+    widths: &[u32],
+    out: &mut [u32],
+) -> usize
+    requires { ⌜ (n ≤ length (now tape)) × (n ≤ longest) × (3 * (k + m) ≤ length (now table)) × (2 * n ≤ length (now out)) ⌝ }
+    ensures long { λ r. ⌜ r ≡ length (settledOn (now (text .entry)) (now (tape .entry)) (n / 3) (now (btext .entry)) (now (table .entry)) k m (now (widths .entry))) ⌝ }
+    ensures items { λ r. ⌜ take r (now (out .exit)) ≡ settledOn (now (text .entry)) (now (tape .entry)) (n / 3) (now (btext .entry)) (now (table .entry)) k m (now (widths .entry)) ⌝ }
+    ensures past { λ r. ⌜ drop r (now (out .exit)) ≡ drop r (now (out .entry)) ⌝ }
+{
+    let many = Counts {
+        items: n / 3,
+        widths: k,
+        values: m,
+    };
+    walk(text, tape, btext, table, widths, many, out)
+}

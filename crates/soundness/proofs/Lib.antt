@@ -1,0 +1,5 @@
+pub mod Groups
+pub mod Laws
+pub mod Turns
+pub mod Vals
+pub mod Wides
