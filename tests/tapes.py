@@ -6,7 +6,9 @@ from actor_words import SPELLED, words
 
 KIND = {s: 4 + i for i, s in enumerate(SPELLED)}
 LEVELS = ["* / %", "+ -", "<< >>", "< <= > >=", "== !=", "& ~& ^ ~^", "| ~|", "&&", "||"]
-BEFORE = "! & ~& | ~| ~ ^ ~^ +".split()
+# the operators in the order of their numbers (docs/PLAN.md): before an operand, and between two
+BEFORE = "~ + ! & ~& | ~| ^ ~^".split()
+BETWEEN = "* / % + - << >> < <= > >= == != & ~& ^ ~^ | ~| && ||".split()
 
 
 def item(op, place=0, value=0):
@@ -52,7 +54,7 @@ for level, signs in enumerate(LEVELS):
     tighter = "level%d" % (level - 1) if level else "operand"
     rule("level%d" % level, tighter, lambda a: a)
     for sign in signs.split():
-        rule("level%d" % level, "level%d '%s' %s" % (level, sign, tighter), both(26, KIND[sign]))
+        rule("level%d" % level, "level%d '%s' %s" % (level, sign, tighter), both(26, BETWEEN.index(sign)))
 rule("operand", "NUM", lambda n: item(16, n.at, n.value))
 rule("operand", "NUM amount", lambda n, a: item(12, n.at, n.value) + a)
 rule("operand", "'<' type '>' amount", lambda o, t, c, a: t + item(13, o.at) + a)
@@ -68,8 +70,8 @@ rule("operand", "sliced '[' type ':' type ']'", lambda e, o, i, d, j, c: e + i +
 rule("operand", "'{' parts '}'", lambda o, e, c: e + item(23, o.at))
 rule("parts", "expr", lambda a: a)
 rule("parts", "parts ',' expr", both(24))
-for sign in BEFORE:
-    rule("operand", "'%s' operand" % sign, lambda o, e, k=KIND[sign]: e + item(25, o.at, k))
+for number, sign in enumerate(BEFORE):
+    rule("operand", "'%s' operand" % sign, lambda o, e, number=number: e + item(25, o.at, number))
 rule("operand", "'case' '(' expr ')' '{' arms", lambda s, o, e, c, b, a: e + item(29, s.at) + a + item(30, s.at))
 rule("arms", "NUM '=>' expr '|' arms", lambda n, w, a, b, c: a + c + item(31, n.at, n.value))
 rule("arms", "'_' '=>' expr '}'", lambda d, w, a, c: a + item(32, d.at))
