@@ -1,6 +1,6 @@
 -- Laws of the lines and the table that holds them. Assumes nothing.
 use mathlib.Core.Path.{_≡_, refl, sym, ap, _∙_}
-use mathlib.Core.Bool.{Bool, true, false, _&&_}
+use mathlib.Core.Bool.{Bool, true, false}
 use mathlib.Core.List.{List, [], _∷_, _++_, append-assoc}
 use mathlib.Core.Logic.{_⊎_, inl, inr, ⊎-elim}
 use Prim.Native.Nat.{ℕ, zero, suc, _+_, _-_, _*_, _≤_, _<_}
@@ -9,18 +9,17 @@ use native.Mathlib.Nat.{add-zero, add-suc, suc-add}
 use native.Mathlib.Numerals.{add-one, add-two}
 use lib.Dec.{leb, eqb}
 use borrow.Author.Tests.{le-leb, lt-leb, leb-true, leb-false}
-use lib.ListN.{length, take, drop, getD, set, length-set, length-drop, length-append, length-take, drop-of-length-le}
-use lib.Seq.{sets, length-sets, take-suc, length-take-le, getD-set-same, getD-set-other, drop-cons}
-use Rattle.language.specs.Text.{Name}
-use Rattle.language.specs.Limits.{limits}
-use Rattle.language.specs.Bindings.{Got, got, lost, after, byte, numberUpTo, freshName, lines, section, sections, Binding, Bindings, bindingsOf, Bound, bound, wrongAt}
-use Rattle.bindings.specs.Table.{lineIn, linesIn, namesOf, onto, Named, cells, tableOf, roomy, answerOf, tableAfter}
-use Rattle.bindings.specs.Steps.{ended, valued, lineOf, lineTold, linesTold, nameTold, count, value, Reads, ReadsName}
-use Rattle.bindings.specs.declared.Step.{Step}
-use Rattle.bindings.specs.declared.Step.the-variants.{Went, Lost}
-use Rattle.bindings.specs.declared.Answer.{Answer}
+use lib.ListN.{length, take, drop, getD, set, length-set, length-drop, length-take, drop-of-length-le}
+use lib.Seq.{sets, take-suc, length-take-le, getD-set-same, getD-set-other, drop-cons}
+use Rattle.language.specs.Bindings.{Got, got, lost, after, byte, freshName, lines, section, sections, Binding, Bindings, bindingsOf, bound, wrongAt}
+use Rattle.binding_names.specs.Names.{lineIn, linesIn, namesOf, Named, nameTold, ReadsName}
+use Rattle.bindings.specs.Table.{onto, cells, tableOf, roomy, answerOf, tableAfter}
+use Rattle.binding_numbers.specs.Steps.{ended, valued, value, Reads}
+use Rattle.bindings.specs.Steps.{lineOf, lineTold, linesTold, count}
+use Rattle.binding_numbers.specs.declared.Step.{Step}
+use Rattle.binding_numbers.specs.declared.Step.the-variants.{Went, Lost}
 use Rattle.bindings.specs.declared.Answer.the-variants.{Bound as IsBound, Wrong, NoRoom}
-use Rattle.bindings.proofs.Laws.{after-got, after-lost}
+use Rattle.binding_numbers.proofs.Numbers.{after-got, after-lost}
 
 -- ---- runs of stores
 

@@ -3,11 +3,10 @@
 use mathlib.Core.Path.{_≡_, refl}
 use mathlib.Core.Bool.{Bool, true, false, _&&_}
 use mathlib.Core.List.{List, [], _∷_, _++_}
-use Prim.Native.Nat.{ℕ, zero, suc, _+_, _*_, _≤_, _<_}
+use Prim.Native.Nat.{ℕ, _+_, _*_}
 use lib.Dec.{leb}
-use lib.ListN.{length, getD, take, drop}
+use lib.ListN.{length}
 use lib.Seq.{sets}
-use Rattle.language.specs.Text.{Name}
 use Rattle.language.specs.Limits.{limits}
 use Rattle.language.specs.Bindings.{Binding, Bindings, bindingsOf, bound, wrongAt}
 use Rattle.bindings.specs.declared.Answer.{Answer}
@@ -38,23 +37,7 @@ answerOf text t = elim (roomy text t) [ false ↦ NoRoom | true ↦ elim (bindin
 unfoldable pub tableAfter : List ℕ → List ℕ → List ℕ
 tableAfter text t = elim (roomy text t) [ false ↦ t | true ↦ elim (bindingsOf text) [ bound b ↦ sets t 0 (tableOf b) | wrongAt p ↦ t ] ]
 
--- and back: line i of a table, and its first i lines, the last one first
-unfoldable pub lineIn : List ℕ → List ℕ → ℕ → Binding
-lineIn text t i = record { called = record { at = getD t (3 * i) 0; spelled = take (getD t (3 * i + 1) 0) (drop (getD t (3 * i) 0) text) }; value = getD t (3 * i + 2) 0 }
-
-unfoldable pub linesIn : List ℕ → List ℕ → ℕ → List Binding
-linesIn text t zero = []
-linesIn text t (suc i) = lineIn text t i ∷ linesIn text t i
-
-unfoldable pub namesOf : List Binding → List (List ℕ)
-namesOf [] = []
-namesOf (b ∷ l) = b .called .spelled ∷ namesOf l
-
 -- lines, the last one first, put in order before others
 unfoldable pub onto : List Binding → List Binding → List Binding
 onto [] l = l
 onto (b ∷ r) l = onto r (b ∷ l)
-
--- each name of the first i lines lies in the text
-pub record Named (text t : List ℕ) (i : ℕ) : Type 0 where
-  pub lies : (j : ℕ) → j < i → getD t (3 * j) 0 + getD t (3 * j + 1) 0 ≤ length text

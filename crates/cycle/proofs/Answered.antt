@@ -10,10 +10,10 @@ use Rattle.language.specs.Values.{onesOf}
 use Rattle.language.specs.Meaning.{Outcome, twice, written}
 use Rattle.plan.specs.Layout.{portCount, groupCount, groupAt, rulesBefore}
 use Rattle.plan.specs.Sound.{soundOf}
-use Rattle.machine.specs.Machine.{State, state, execRules}
+use Rattle.item_steps.specs.Machine.{State, state, execRules}
 use Rattle.judged.specs.Groups.{Fired, fired, unfired, matching, firing}
 use Rattle.judged.specs.Tests.{fitting, counts}
-use Rattle.cycle.specs.Cycle.{refusedBy, ends, soundCycle, cycleOf}
+use Rattle.turn.specs.Cycle.{refusedBy, ends, soundCycle, cycleOf}
 use Rattle.cycle.specs.Run.{result, tablesFit, runOf, cyclesOf, turnsIn, leftBy}
 use Rattle.cycle.proofs.Night.{run-20, run-21, run-0, turns-are}
 

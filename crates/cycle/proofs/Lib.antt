@@ -1,3 +1,2 @@
 pub mod Answered
 pub mod Night
-pub mod Outcomes

@@ -19,11 +19,11 @@ use Rattle.plan_sections.proofs.Parts.{sections-parts}
 use Rattle.plan.proofs.Tests.{and-left, and-right}
 use Rattle.judged.specs.declared.Answer.the-variants.{Unsound, Miscounted}
 use Rattle.judged.specs.Answers.{numberOf}
-use Rattle.cycle.specs.Cycle.{cycleOf}
+use Rattle.turn.specs.Cycle.{cycleOf}
 use Rattle.judged.specs.Tests.{counts}
-use Rattle.cycle.specs.Turn.{outcome}
+use Rattle.turn.specs.Turn.{outcome}
 use Rattle.cycle.specs.Run.{Result, result, before, turnsOf, tablesFit, runOf, cyclesOf, turnsIn, leftBy}
-use Rattle.cycle.proofs.Outcomes.{counted}
+use Rattle.turn.proofs.Outcomes.{counted, counts-told}
 
 -- k cycles are over: what they left, and what those after them will leave
 pub record Runs (p masks values memory₀ outputs₀ : List ℕ) (k at : ℕ) (memory outputs answers : List ℕ) : Type 0 where
@@ -186,3 +186,24 @@ room-for p masks values memory outputs answers k at n h e q l =
     let t = tables-told p masks values memory outputs answers h in
     let f : at + n ≤ length masks * portCount p = subst (λ (i : ℕ). at + n ≤ length masks * i) e (next-fits k n (length masks) at q l) in
     (omega (arith, t .0), omega (arith, t .1), omega (arith, t .2))
+
+-- ---- a cycle is a run of one
+
+pub one-fits : (p values memory outs : List ℕ) (mask : ℕ) → counts p values memory outs ≡ true → tablesFit p (mask ∷ []) values memory outs (0 ∷ 0 ∷ []) ≡ true
+unfolding tablesFit
+one-fits p values memory outs mask h =
+    let t = counts-told p values memory outs h in
+    let e : length (mask ∷ []) * portCount p ≡ portCount p = omega arith in
+    ap₂ _&&_ (ap₂ _&&_ (ap₂ _&&_ (eq-eqb (length values) (length (mask ∷ []) * portCount p) (t .0 ∙ sym e)) (eq-eqb (length outs) (length (mask ∷ []) * portCount p) (t .1 ∙ sym e))) refl)
+    (eq-eqb (length memory) (cellsBefore p (memoryCount p)) (t .2))
+
+pub one-cycle : (p : List ℕ) (mask : ℕ) (values memory outs m o a : List ℕ) → counts p values memory outs ≡ true → result 0 m o a ≡ turnsOf p (mask ∷ []) values memory outs
+    → outcome (getD a 0 0) (getD a 1 0) o m ≡ cycleOf p mask values memory outs
+unfolding turnsOf before
+one-cycle p mask values memory outs m o a h e =
+    let t = counts-told p values memory outs h in
+    let v : take (portCount p) values ≡ values = take-all (portCount p) values (omega (arith, t .0)) in
+    let w : take (portCount p) outs ≡ outs = take-all (portCount p) outs (omega (arith, t .1)) in
+    ap (λ (r : Result). outcome (getD (r .answers) 0 0) (getD (r .answers) 1 0) (r .outputs) (r .memory)) e
+    ∙ rw (v, w) (ap (λ (l : List ℕ). outcome (cycleOf p mask values memory outs .answer) (cycleOf p mask values memory outs .count) l (cycleOf p mask values memory outs .memory))
+    (append-nil (cycleOf p mask values memory outs .outputs)))

@@ -1,3 +1,1 @@
-pub mod Cycle
 pub mod Run
-pub mod Turn

@@ -10,7 +10,7 @@ use Rattle.plan.specs.Layout.{portCount, memoryCount, cellsBefore}
 use Rattle.plan.specs.Sound.{soundOf}
 use Rattle.judged.specs.declared.Answer.the-variants.{Unsound, Miscounted}
 use Rattle.judged.specs.Answers.{numberOf}
-use Rattle.cycle.specs.Cycle.{cycleOf}
+use Rattle.turn.specs.Cycle.{cycleOf}
 
 -- the answer of a run, the memory it leaves, the output slots and the two numbers of each cycle
 pub record Result : Type 0 where

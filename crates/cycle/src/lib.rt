@@ -2,42 +2,21 @@
 // What comes in: a plan, a mask, values, memory, outputs. What goes out: the answer, the number of
 // present ports, and the outputs and memory as the plan means them.
 mod runs;
-mod whole;
 
 ghost use mathlib.Core.Path.{_≡_};
-ghost use Rattle.judged.specs.Answers.{numberOf};
-ghost use Rattle.cycle.specs.Cycle.{cycleOf};
+ghost use Rattle.turn.specs.Cycle.{cycleOf};
 ghost use Rattle.cycle.specs.Run.{result, runOf};
-ghost use Rattle.cycle.specs.Turn.{outcome};
+ghost use Rattle.turn.specs.Turn.{outcome};
 use judged::Answer;
 use judged::counts;
 use judged::number;
-use plan::WAITS;
 use runs::tables_fit;
 use runs::turns;
 use soundness::sound;
-use whole::turn;
+use turn::Done;
+use turn::refused;
 
-// A cell of all memories together.
-const CELLS: usize = language::Plan::CELLS as usize;
-
-// The answer of a cycle as 01's number, and the number of present ports, 0 where it is refused.
-pub struct Done {
-    pub answer: u32,
-    pub present: u32,
-}
-
-// A cycle that is refused changes nothing.
-fn refused(answer: Answer) -> Done
-    ensures { λ r. ⌜ (r .answer ≡ numberOf answer) × (r .present ≡ 0) ⌝ }
-{
-    Done {
-        answer: number(answer),
-        present: 0,
-    }
-}
-
-// One cycle of any plan over any tables. Those that it works in are its own, so that what is written to them cannot be the plan or the cells.
+// One cycle of any plan over any tables: a run of one. So the code of a cycle stands once in a program, with its tables beside it.
 pub fn cycle(
     plan: &[u32],
     mask: u32,
@@ -45,7 +24,8 @@ pub fn cycle(
     memory: &mut [u64],
     outputs: &mut [u64],
 ) -> Done
-    ensures { λ r. ⌜ outcome (r .answer) (r .present) (now (outputs .exit)) (now (memory .exit)) ≡ cycleOf (now (plan .entry)) mask (now (values .entry)) (now (memory .entry)) (now (outputs .entry)) ⌝ }
+    ensures { λ r. ⌜ outcome (r .answer) (r .present) (now (outputs .exit)) (now (memory .exit))
+        ≡ cycleOf (now (plan .entry)) mask (now (values .entry)) (now (memory .entry)) (now (outputs .entry)) ⌝ }
 {
     if !sound(plan) {
         return refused(Answer::Unsound);
@@ -53,22 +33,16 @@ pub fn cycle(
     if !counts(plan, values, memory, outputs) {
         return refused(Answer::Miscounted);
     }
-    let mut stack = [0u64; WAITS];
-    let mut next = [0u64; CELLS];
-    let mut changed = [0u32; CELLS];
-    turn(
-        plan,
-        mask,
-        values,
-        memory,
-        outputs,
-        &mut stack,
-        &mut next,
-        &mut changed,
-    )
+    let masks = [mask];
+    let mut answers = [0u32; 2];
+    turns(plan, &masks, values, memory, outputs, &mut answers);
+    Done {
+        answer: answers[0],
+        present: answers[1],
+    }
 }
 
-// Cycle after cycle, with a mask for each, in tables that are made once: 20 or 21 where nothing is run, else 0 and each cycle's own two numbers.
+// Cycle after cycle, with a mask for each: 20 or 21 where nothing is run, else 0 and each cycle's own two numbers.
 pub fn run(
     plan: &[u32],
     masks: &[u32],
@@ -77,7 +51,8 @@ pub fn run(
     outputs: &mut [u64],
     answers: &mut [u32],
 ) -> u32
-    ensures { λ r. ⌜ result r (now (memory .exit)) (now (outputs .exit)) (now (answers .exit)) ≡ runOf (now (plan .entry)) (now (masks .entry)) (now (values .entry)) (now (memory .entry)) (now (outputs .entry)) (now (answers .entry)) ⌝ }
+    ensures { λ r. ⌜ result r (now (memory .exit)) (now (outputs .exit)) (now (answers .exit))
+        ≡ runOf (now (plan .entry)) (now (masks .entry)) (now (values .entry)) (now (memory .entry)) (now (outputs .entry)) (now (answers .entry)) ⌝ }
 {
     if !sound(plan) {
         return number(Answer::Unsound);
@@ -85,19 +60,6 @@ pub fn run(
     if !tables_fit(plan, masks, values, memory, outputs, answers) {
         return number(Answer::Miscounted);
     }
-    let mut stack = [0u64; WAITS];
-    let mut next = [0u64; CELLS];
-    let mut changed = [0u32; CELLS];
-    turns(
-        plan,
-        masks,
-        values,
-        memory,
-        outputs,
-        answers,
-        &mut stack,
-        &mut next,
-        &mut changed,
-    );
+    turns(plan, masks, values, memory, outputs, answers);
     number(Answer::Accepted)
 }

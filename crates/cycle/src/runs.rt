@@ -6,13 +6,17 @@ ghost use lib.Dec.{eqb};
 ghost use lib.ListN.{length};
 ghost use Rattle.plan.specs.Layout.{portCount};
 ghost use Rattle.plan.specs.Sound.{soundOf};
-ghost use Rattle.machine.specs.Tables.{Tables};
+ghost use Rattle.item_steps.specs.Tables.{Tables};
 ghost use Rattle.cycle.specs.Run.{result, turnsOf, tablesFit};
-use crate::whole::turn;
+use plan::WAITS;
 use plan::cells_before;
 use plan::memory_count;
 use plan::place;
 use plan::port_count;
+use turn::turn;
+
+// A cell of all memories together.
+const CELLS: usize = language::Plan::CELLS as usize;
 
 // A table has n numbers for each of k: told by division, since a product could be too large.
 fn times(len: usize, n: usize, k: usize) -> bool
@@ -41,7 +45,7 @@ pub fn tables_fit(
 }
 
 // Cycle after cycle, each with its own part of the tables.
-pub fn turns(
+fn turns_in(
     plan: &[u32],
     masks: &[u32],
     values: &[u64],
@@ -55,7 +59,8 @@ pub fn turns(
     requires { ⌜ soundOf (now plan) ≡ true ⌝ }
     requires { ⌜ tablesFit (now plan) (now masks) (now values) (now memory) (now outputs) (now answers) ≡ true ⌝ }
     requires { ⌜ Tables (now memory) (now stack) (now next) (now changed) ⌝ }
-    ensures { λ _. ⌜ result 0 (now (memory .exit)) (now (outputs .exit)) (now (answers .exit)) ≡ turnsOf (now (plan .entry)) (now (masks .entry)) (now (values .entry)) (now (memory .entry)) (now (outputs .entry)) ⌝ }
+    ensures { λ _. ⌜ result 0 (now (memory .exit)) (now (outputs .exit)) (now (answers .exit))
+        ≡ turnsOf (now (plan .entry)) (now (masks .entry)) (now (values .entry)) (now (memory .entry)) (now (outputs .entry)) ⌝ }
 {
     let n = place(port_count(plan));
     let mut at = 0usize;
@@ -78,4 +83,34 @@ pub fn turns(
         at = end;
         k += 1;
     }
+}
+
+// Cycle after cycle, in tables that are made once: they are its own, so that what is written to them cannot be the plan or the cells.
+pub fn turns(
+    plan: &[u32],
+    masks: &[u32],
+    values: &[u64],
+    memory: &mut [u64],
+    outputs: &mut [u64],
+    answers: &mut [u32],
+)
+    requires { ⌜ soundOf (now plan) ≡ true ⌝ }
+    requires { ⌜ tablesFit (now plan) (now masks) (now values) (now memory) (now outputs) (now answers) ≡ true ⌝ }
+    ensures { λ _. ⌜ result 0 (now (memory .exit)) (now (outputs .exit)) (now (answers .exit))
+        ≡ turnsOf (now (plan .entry)) (now (masks .entry)) (now (values .entry)) (now (memory .entry)) (now (outputs .entry)) ⌝ }
+{
+    let mut stack = [0u64; WAITS];
+    let mut next = [0u64; CELLS];
+    let mut changed = [0u32; CELLS];
+    turns_in(
+        plan,
+        masks,
+        values,
+        memory,
+        outputs,
+        answers,
+        &mut stack,
+        &mut next,
+        &mut changed,
+    );
 }

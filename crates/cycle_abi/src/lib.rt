@@ -2,7 +2,7 @@
 // What comes in: a plan and tables, each as a pointer and a length.
 // What goes out: `cycle`'s answer, and all that `run` gives.
 ghost use mathlib.Core.Path.{_≡_};
-ghost use Rattle.cycle.specs.Cycle.{cycleOf};
+ghost use Rattle.turn.specs.Cycle.{cycleOf};
 ghost use Rattle.cycle.specs.Run.{result, runOf};
 
 #[no_mangle]
@@ -13,7 +13,9 @@ pub extern "C" fn plan_cycle(
     memory: &mut [u64],
     outputs: &mut [u64],
 ) -> u32
-    ensures { λ r. ⌜ (r ≡ cycleOf (now (plan .entry)) mask (now (values .entry)) (now (memory .entry)) (now (outputs .entry)) .answer) × (now (outputs .exit) ≡ cycleOf (now (plan .entry)) mask (now (values .entry)) (now (memory .entry)) (now (outputs .entry)) .outputs) × (now (memory .exit) ≡ cycleOf (now (plan .entry)) mask (now (values .entry)) (now (memory .entry)) (now (outputs .entry)) .memory) ⌝ }
+    ensures { λ r. ⌜ r ≡ cycleOf (now (plan .entry)) mask (now (values .entry)) (now (memory .entry)) (now (outputs .entry)) .answer ⌝ }
+    ensures { λ _. ⌜ now (outputs .exit) ≡ cycleOf (now (plan .entry)) mask (now (values .entry)) (now (memory .entry)) (now (outputs .entry)) .outputs ⌝ }
+    ensures { λ _. ⌜ now (memory .exit) ≡ cycleOf (now (plan .entry)) mask (now (values .entry)) (now (memory .entry)) (now (outputs .entry)) .memory ⌝ }
 {
     let done = cycle::cycle(plan, mask, values, memory, outputs);
     done.answer
@@ -28,7 +30,8 @@ pub extern "C" fn plan_run(
     outputs: &mut [u64],
     answers: &mut [u32],
 ) -> u32
-    ensures { λ r. ⌜ result r (now (memory .exit)) (now (outputs .exit)) (now (answers .exit)) ≡ runOf (now (plan .entry)) (now (masks .entry)) (now (values .entry)) (now (memory .entry)) (now (outputs .entry)) (now (answers .entry)) ⌝ }
+    ensures { λ r. ⌜ result r (now (memory .exit)) (now (outputs .exit)) (now (answers .exit))
+        ≡ runOf (now (plan .entry)) (now (masks .entry)) (now (values .entry)) (now (memory .entry)) (now (outputs .entry)) (now (answers .entry)) ⌝ }
 {
     cycle::run(plan, masks, values, memory, outputs, answers)
 }

@@ -65,7 +65,7 @@ pub fn minus(x: Exact, y: Exact) -> Exact
 }
 
 // 2^p a is at most 2^q b. The powers are too big for a word: the smaller one goes away, and the other is a shift of the other side.
-pub fn at_most(p: u64, a: u64, q: u64, b: u64) -> bool
+fn at_most(p: u64, a: u64, q: u64, b: u64) -> bool
     ensures { λ r. ⌜ r ≡ leb (2 ^ p * a) (2 ^ q * b) ⌝ }
 {
     if p <= q {
@@ -85,7 +85,7 @@ pub fn at_most(p: u64, a: u64, q: u64, b: u64) -> bool
     a == 0
 }
 
-pub fn not_above(x: Exact, y: Exact) -> bool
+fn not_above(x: Exact, y: Exact) -> bool
     requires { ⌜ Room x y ⌝ }
     ensures { λ r. ⌜ r ≡ notAbove x y ⌝ }
 {
@@ -103,7 +103,7 @@ pub fn greater(x: Exact, y: Exact) -> Exact
 }
 
 // The bits of a quotient count the powers of two in it: no loop.
-pub fn log_down(a: u64, b: u64) -> u64
+fn log_down(a: u64, b: u64) -> u64
     requires { ⌜ 0 < b ⌝ }
     ensures { λ r. ⌜ (r ≡ logDown a b) × (r ≤ 64) ⌝ }
 {
@@ -113,7 +113,7 @@ pub fn log_down(a: u64, b: u64) -> u64
     (63 - u64::leading_zeros(a / b)) as u64
 }
 
-pub fn log_up(a: u64, b: u64) -> u64
+fn log_up(a: u64, b: u64) -> u64
     requires { ⌜ (0 < a) × (0 < b) ⌝ }
     ensures { λ r. ⌜ (r ≡ logUp a b) × (r ≤ 64) ⌝ }
 {

@@ -10,7 +10,8 @@ use borrow.Author.Tests.{lt-ltb, le-ltb}
 use Rattle.language.specs.Grammar.{Operator, operators, operatorIn, prefixes, prefixIn}
 use Rattle.language.specs.Parser.{below, isOperator, isPrefix, prefixAt}
 use Rattle.language.specs.declared.Unary.{Unary}
-use Rattle.words.specs.Table.{spelledWords, wordOf}
+use Rattle.signs.specs.Kinds.{spelledWords}
+use Rattle.words.specs.Table.{wordOf}
 use Rattle.tape.specs.Tape.{unaryNumber, binaryNumber}
 use Rattle.readers.specs.Marks.{unaryOf, unaryIn, binaryOf, binaryIn, count, fixedOf, levelOf, levelIn, isMark, isSome}
 use Rattle.readers.specs.Meets.{Kind, Level}

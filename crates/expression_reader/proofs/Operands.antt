@@ -12,7 +12,8 @@ use Rattle.language.specs.Tree.{Expr, copies, read, cell, inside, joined, besid
 use Rattle.language.specs.Grammar.{prefixes, prefixIn, loosest}
 use Rattle.language.specs.Reader.{Res, ok, bad, bind, on, is, isNum, isName, isDigits, expect, until}
 use Rattle.language.specs.Parser.{partP, exprP, condL, binP, binL, operandP, numberP, namedP, partL, armsP, armEnds, isOperator, isPrefix, prefixAt}
-use Rattle.words.specs.Table.{spelledWords, wordOf, wordAt}
+use Rattle.signs.specs.Kinds.{spelledWords}
+use Rattle.words.specs.Table.{wordOf, wordAt}
 use Rattle.readers.specs.Marks.{count, kindAt, placeAt, longAt, valueAt, numeralAt, nameAt, spelledAt, Marked, levelOf, isMark, isMemory}
 use Rattle.readers.proofs.Spells.{kind-inside, kind-is, word, on-miss, on-is, off-is, num-miss, name-miss}
 use Rattle.readers.proofs.Fixed.{s-open, s-comma, s-case, s-if, s-default, s-brace, s-ask, s-less}

@@ -16,6 +16,7 @@ use readers::prefix;
 use readers::put;
 use readers::unary_item;
 use readers::value;
+use signs::kinds;
 use tape::ARM;
 use tape::BESIDE;
 use tape::CELL;
@@ -31,8 +32,9 @@ use tape::SELECTED;
 use type_reader::constant;
 use type_reader::part;
 use type_reader::typed;
-use words::kinds;
 ghost use Prim.Native.Nat.{_≤_};
+ghost use Rattle.language.specs.Grammar.{loosest};
+ghost use Rattle.signs.specs.Kinds.{braceKind, caseKind, ifKind, nameKind, numberKind, openKind, restKind};
 ghost use Rattle.readers.specs.Meets.{Room, Starts};
 ghost use Rattle.expression_reader.specs.Expressions.{StartsMark, IsExpr, IsChoices, IsBinary, IsOperators, IsParts, IsArms};
 ghost use Rattle.type_reader.specs.Types.{IsOperand};
@@ -53,7 +55,7 @@ pub fn expr(words: &Table, tape: &mut Tape, at: usize, n: usize, arm: bool) -> O
 
 // `if`, `then`, `else`.
 fn either(words: &Table, tape: &mut Tape, at: usize, n: usize, arm: bool) -> Out
-    requires { ⌜ Starts (now words) at n 15 ⌝ }
+    requires { ⌜ Starts (now words) at n ifKind ⌝ }
     ensures { λ r. ⌜ IsExpr (now (words .entry)) at n (now (tape .entry)) r (now (tape .exit)) arm ⌝ }
 {
     let a = expr(words, tape, at + 1, n, false);
@@ -104,7 +106,7 @@ fn choices(words: &Table, tape: &mut Tape, at: usize, n: usize, arm: bool) -> Ou
 // Operands with operators of the levels below `below` between them.
 fn binary(words: &Table, tape: &mut Tape, at: usize, n: usize, below: u32, arm: bool) -> Out
     requires { ⌜ Room (now words) at n ⌝ }
-    requires { ⌜ below ≤ 9 ⌝ }
+    requires { ⌜ below ≤ loosest ⌝ }
     ensures { λ r. ⌜ IsBinary (now (words .entry)) at n (now (tape .entry)) r (now (tape .exit)) below arm ⌝ }
 {
     match operand(words, tape, at, n) {
@@ -116,7 +118,7 @@ fn binary(words: &Table, tape: &mut Tape, at: usize, n: usize, below: u32, arm: 
 // What follows an operand that is on the tape.
 fn operators(words: &Table, tape: &mut Tape, at: usize, n: usize, below: u32, arm: bool) -> Out
     requires { ⌜ Room (now words) at n ⌝ }
-    requires { ⌜ below ≤ 9 ⌝ }
+    requires { ⌜ below ≤ loosest ⌝ }
     ensures { λ r. ⌜ IsOperators (now (words .entry)) at n (now (tape .entry)) r (now (tape .exit)) below arm ⌝ }
 {
     let mut x = at;
@@ -166,7 +168,7 @@ fn operand(words: &Table, tape: &mut Tape, at: usize, n: usize) -> Out
 
 // A number: how many copies there are, or a constant.
 fn number(words: &Table, tape: &mut Tape, at: usize, n: usize) -> Out
-    requires { ⌜ Starts (now words) at n 1 ⌝ }
+    requires { ⌜ Starts (now words) at n numberKind ⌝ }
     ensures { λ r. ⌜ IsOperand (now (words .entry)) at n (now (tape .entry)) r (now (tape .exit)) ⌝ }
 {
     let k = kind(words, at + 1);
@@ -186,7 +188,7 @@ fn number(words: &Table, tape: &mut Tape, at: usize, n: usize) -> Out
 
 // A name: a cell of a memory, or what is read, with bit positions.
 fn named(words: &Table, tape: &mut Tape, at: usize, n: usize) -> Out
-    requires { ⌜ Starts (now words) at n 2 ⌝ }
+    requires { ⌜ Starts (now words) at n nameKind ⌝ }
     ensures { λ r. ⌜ IsOperand (now (words .entry)) at n (now (tape .entry)) r (now (tape .exit)) ⌝ }
 {
     let is_memory = memory(words, at);
@@ -210,7 +212,7 @@ fn named(words: &Table, tape: &mut Tape, at: usize, n: usize) -> Out
 
 // An expression in parentheses, with bit positions.
 fn inside(words: &Table, tape: &mut Tape, at: usize, n: usize) -> Out
-    requires { ⌜ Starts (now words) at n 36 ⌝ }
+    requires { ⌜ Starts (now words) at n openKind ⌝ }
     ensures { λ r. ⌜ IsOperand (now (words .entry)) at n (now (tape .entry)) r (now (tape .exit)) ⌝ }
 {
     let o = expr(words, tape, at + 1, n, false);
@@ -225,7 +227,7 @@ fn inside(words: &Table, tape: &mut Tape, at: usize, n: usize) -> Out
 
 // A concatenation.
 fn joined(words: &Table, tape: &mut Tape, at: usize, n: usize) -> Out
-    requires { ⌜ Starts (now words) at n 38 ⌝ }
+    requires { ⌜ Starts (now words) at n braceKind ⌝ }
     ensures { λ r. ⌜ IsOperand (now (words .entry)) at n (now (tape .entry)) r (now (tape .exit)) ⌝ }
 {
     match expr(words, tape, at + 1, n, false) {
@@ -281,7 +283,7 @@ fn unary(words: &Table, tape: &mut Tape, at: usize, n: usize, k: u32) -> Out
 
 // A case: its selector, then its arms.
 fn select(words: &Table, tape: &mut Tape, at: usize, n: usize) -> Out
-    requires { ⌜ Starts (now words) at n 14 ⌝ }
+    requires { ⌜ Starts (now words) at n caseKind ⌝ }
     ensures { λ r. ⌜ IsOperand (now (words .entry)) at n (now (tape .entry)) r (now (tape .exit)) ⌝ }
 {
     let k = kind(words, at + 1);
@@ -320,7 +322,7 @@ fn arms(words: &Table, tape: &mut Tape, at: usize, n: usize) -> Out
 
 // An arm with its label, and the arms after it.
 fn labelled(words: &Table, tape: &mut Tape, at: usize, n: usize) -> Out
-    requires { ⌜ Starts (now words) at n 1 ⌝ }
+    requires { ⌜ Starts (now words) at n numberKind ⌝ }
     ensures { λ r. ⌜ IsArms (now (words .entry)) at n (now (tape .entry)) r (now (tape .exit)) ⌝ }
 {
     let k = kind(words, at + 1);
@@ -343,7 +345,7 @@ fn labelled(words: &Table, tape: &mut Tape, at: usize, n: usize) -> Out
 
 // The last arm.
 fn default(words: &Table, tape: &mut Tape, at: usize, n: usize) -> Out
-    requires { ⌜ Starts (now words) at n 22 ⌝ }
+    requires { ⌜ Starts (now words) at n restKind ⌝ }
     ensures { λ r. ⌜ IsArms (now (words .entry)) at n (now (tape .entry)) r (now (tape .exit)) ⌝ }
 {
     let k = kind(words, at + 1);

@@ -21,6 +21,11 @@ fn digit_value(b: u8) -> u64
     if 48 <= b { (b - 48) as u64 } else { 0 }
 }
 
+// The greatest mask, of 32 bits, and the greatest value, of 64.
+const MASK: u64 = 4294967295;
+
+const VALUE: u64 = 18446744073709551615;
+
 // Ten times the number and a digit, if that is at most so much.
 fn fits(number: u64, digit: u64, most: u64) -> bool
     ensures { λ r. ⌜ r ≡ leb (number * 10 + digit) most ⌝ }
@@ -35,11 +40,7 @@ fn fits(number: u64, digit: u64, most: u64) -> bool
 fn most(port: u32) -> u64
     ensures { λ r. ⌜ r ≡ mostOf port ⌝ }
 {
-    if port == 0 {
-        4294967295
-    } else {
-        18446744073709551615
-    }
+    if port == 0 { MASK } else { VALUE }
 }
 
 // Whether a byte is the number's next digit: none stands after a 0.
@@ -77,10 +78,10 @@ pub fn longer(s: State, b: u8) -> State
     ensures { λ r. ⌜ r ≡ longerOf s b ⌝ }
 {
     let d = digit_value(b);
-    if fits(s.number, d, 18446744073709551615) {
+    if fits(s.number, d, VALUE) {
         grown(s, s.number * 10 + d)
     } else {
-        grown(s, 18446744073709551615)
+        grown(s, VALUE)
     }
 }
 

@@ -56,12 +56,12 @@ fn part_end(len: usize, from: usize, n: usize) -> usize
 
 // The value of a sized constant.
 fn say_constant(actor: &[u8], at: u32) {
-    match words::constant(actor, at as usize) {
-        words::Amount::Exact(x) => {
+    match sized_constants::constant(actor, at as usize) {
+        sized_constants::Amount::Exact(x) => {
             io::print_decimal(STDOUT_FILENO, x);
             io::write_all(STDOUT_FILENO, b" ");
         }
-        words::Amount::TooBig => {
+        sized_constants::Amount::TooBig => {
             io::write_all(STDOUT_FILENO, b"big ");
         }
     }
@@ -76,7 +76,7 @@ fn show(actor: &[u8], table: &[u32], n: usize)
     while i < n {
         say(table[4 * i], b" ");
         say(table[4 * i + 1], b" ");
-        if table[4 * i] == words::kinds::DIGITS {
+        if table[4 * i] == signs::kinds::DIGITS {
             say_constant(actor, table[4 * i + 1]);
         }
         i += 1;

@@ -13,7 +13,8 @@ use Rattle.language.specs.Words.{Word, Numeral}
 use Rattle.language.specs.Tree.{Declared, untyped, Size, one, cells, Memory}
 use Rattle.language.specs.Reader.{Res, ok, bad, bind, on, isNum, isName, expect, until, manyP, commasP}
 use Rattle.language.specs.Parser.{typeP, isWay, isStore, portP, memoryP, nameP}
-use Rattle.words.specs.Table.{spelledWords, wordOf}
+use Rattle.signs.specs.Kinds.{spelledWords}
+use Rattle.words.specs.Table.{wordOf}
 use Rattle.tape.specs.Tape.{one-if}
 use Rattle.readers.specs.Marks.{count, kindAt, numeralAt, nameAt, Marked, fixedOf}
 use Rattle.readers.specs.Meets.{On, Agrees, read, fault}

@@ -134,7 +134,7 @@ fn range_width(i: u32, j: u32, y: u32) -> Width
         return Width::None;
     }
     if j < y {
-        Width::Of(value::range_width(i, j))
+        Width::Of(ranges::range_width(i, j))
     } else {
         Width::None
     }

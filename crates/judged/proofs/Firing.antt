@@ -11,9 +11,9 @@ use lib.Bits.{bitOr, or-lt, or-add-and, and-le-l, and-le-r}
 use lib.Seq.{take-suc-set}
 use borrow.Author.Tests.{eq-eqb, ne-eqb, eqb-true, eqb-false, lt-ltb, le-ltb, ltb-true, ltb-false}
 use Rattle.language.specs.Values.{bitOf}
-use Rattle.value.specs.Masks.{bitMatches, matchesIn}
-use Rattle.value.specs.Masks.{matchesOf as Masks·matchesOf}
-use Rattle.value.proofs.Digits.{bit-lt}
+use Rattle.bits.specs.Masks.{bitMatches, matchesIn}
+use Rattle.bits.specs.Masks.{matchesOf as Masks·matchesOf}
+use Rattle.bits.proofs.Digits.{bit-lt}
 use Rattle.plan.specs.Layout.{memorySizeAt, cellsBefore, presentAt, absentAt, rulesBefore, groupAt}
 use Rattle.judged.specs.Groups.{bitsAgree, matchesOf, matching, Fired, fired, unfired, firing}
 use Rattle.judged.specs.Tests.{allBelow}

@@ -3,19 +3,20 @@ ghost use mathlib.Core.Path.{_≡_};
 ghost use mathlib.Core.Bool.{true};
 ghost use Prim.Native.Nat.{_+_, _≤_, _<_};
 ghost use lib.ListN.{length};
-ghost use Rattle.plan.specs.Layout.{groupCount, rulesFrom};
+ghost use Rattle.language.specs.Limits.{limits};
+ghost use Rattle.plan.specs.Layout.{groupCount, rulesFrom, greatest, farthest};
 ghost use Rattle.plan.specs.Sound.{sectionsOk};
 ghost use Rattle.judged.specs.Groups.{matchesOf, matching, firing};
 ghost use Rattle.judged.specs.Judged.{onlyOf, judgedAs};
 use crate::Answer;
 use crate::Judged;
+use bits::matches;
 use plan::group_in;
 use plan::groups_from;
 use plan::groups_in;
 use plan::masks_in;
 use plan::place;
 use plan::rules_from;
-use value::matches;
 
 // The one rule of a group that matches, or why there is none.
 pub enum Match {
@@ -25,7 +26,7 @@ pub enum Match {
 
 // By and-ing the mask with the rule's two.
 fn rule_matches(plan: &[u32], from: usize, mask: u32, r: u32) -> bool
-    requires { ⌜ (from ≡ rulesFrom (now plan)) × (from < 68719476736) ⌝ }
+    requires { ⌜ (from ≡ rulesFrom (now plan)) × (from < farthest) ⌝ }
     ensures { λ x. ⌜ x ≡ matchesOf (now (plan .entry)) mask r ⌝ }
 {
     let masks = masks_in(plan, from, r);
@@ -34,7 +35,7 @@ fn rule_matches(plan: &[u32], from: usize, mask: u32, r: u32) -> bool
 
 // The one rule of n from `first` on that matches.
 fn only(plan: &[u32], mask: u32, first: u32, n: u32) -> Match
-    requires { ⌜ first + n ≤ 4294967295 ⌝ }
+    requires { ⌜ first + n ≤ greatest ⌝ }
     ensures { λ r. ⌜ r ≡ onlyOf (matching (now (plan .entry)) mask first n) ⌝ }
 {
     let from = rules_from(plan);
@@ -60,7 +61,7 @@ fn only(plan: &[u32], mask: u32, first: u32, n: u32) -> Match
 
 // The rules that fire, into `fired`, group after group, up to the first that has no such rule.
 pub fn fire(plan: &[u32], mask: u32, fired: &mut [u32]) -> Judged
-    requires { ⌜ (sectionsOk (now plan) ≡ true) × (length (now fired) ≡ 8) ⌝ }
+    requires { ⌜ (sectionsOk (now plan) ≡ true) × (length (now fired) ≡ limits .groups) ⌝ }
     ensures { λ r. ⌜ judgedAs (now (plan .entry)) r (now (fired .exit)) ≡ firing (now (plan .entry)) mask 0 (groupCount (now (plan .entry))) ⌝ }
 {
     let from = groups_from(plan);

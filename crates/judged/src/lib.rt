@@ -7,6 +7,7 @@ mod tests;
 ghost use mathlib.Core.Path.{_≡_};
 ghost use mathlib.Core.Bool.{true};
 ghost use lib.ListN.{length};
+ghost use Rattle.language.specs.Limits.{limits};
 ghost use Rattle.plan.specs.Layout.{portCount, memoryCount, cellsBefore};
 ghost use Rattle.plan.specs.Sound.{sectionsOk};
 ghost use Rattle.judged.specs.Answers.{numberOf};
@@ -49,7 +50,7 @@ pub fn number(answer: Answer) -> u32
 
 // Numbers 22 to 24, or the rules that fire, into `fired`.
 pub fn judge(plan: &[u32], mask: u32, values: &[u64], memory: &[u64], fired: &mut [u32]) -> Judged
-    requires { ⌜ (sectionsOk (now plan) ≡ true) × (length (now fired) ≡ 8) ⌝ }
+    requires { ⌜ (sectionsOk (now plan) ≡ true) × (length (now fired) ≡ limits .groups) ⌝ }
     requires { ⌜ (length (now values) ≡ portCount (now plan)) × (length (now memory) ≡ cellsBefore (now plan) (memoryCount (now plan))) ⌝ }
     ensures { λ r. ⌜ judgedAs (now (plan .entry)) r (now (fired .exit)) ≡ judged (now (plan .entry)) mask (now (values .entry)) (now (memory .entry)) ⌝ }
 {

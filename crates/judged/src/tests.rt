@@ -6,8 +6,8 @@ ghost use Rattle.plan.specs.Layout.{portCount, memoryCount, memorySizeAt, cells
 ghost use Rattle.judged.specs.Tests.{allBelow, inputFits, memoryFits};
 ghost use Rattle.judged.specs.Tests.{counts as Tests·counts};
 ghost use Rattle.judged.specs.Tests.{fitting as Tests·fitting};
-use machine::slot;
-use machine::wide;
+use item_steps::slot;
+use item_steps::wide;
 use plan::OUTPUT;
 use plan::bit;
 use plan::cells_before;

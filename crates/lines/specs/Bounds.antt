@@ -5,7 +5,7 @@ use mathlib.Core.List.{List, []}
 use Prim.Native.Nat.{ℕ, zero, suc, _+_, _≤_, _<_}
 use lib.Dec.{eqb}
 use lib.ListN.{length, getD, take, drop}
-use Rattle.language.specs.Text.{Line, upToEnd}
+use Rattle.language.specs.Text.{Line, upToEnd, lineAt}
 use Rattle.language.specs.declared.Text.{Text}
 use Rattle.language.specs.declared.Text.the-variants.{Actor as InActor, Bindings as InBindings}
 
@@ -29,6 +29,10 @@ pub record LineStands (text : List ℕ) (lies : ℕ × ℕ) (line : Line) (r : L
   pub part : take (length r) (drop (line .from) text) ≡ r
   pub block : at .0 ≡ lies .0
   pub begins : at .1 ≡ lies .1 + line .from
+
+-- the line at a place of the text that is meant, out of both texts and where they lie
+abbrev pub LineOf : (actor bindings : List ℕ) (actorLies bindingsLie : ℕ × ℕ) → Text → ℕ → List ℕ → ℕ × ℕ → Type 0
+LineOf actor bindings actorLies bindingsLie which place r at = LineStands (ofText actor bindings which) (ofText actorLies bindingsLie which) (lineAt actor bindings which place) r at
 
 -- ---- the same, said of the text alone
 

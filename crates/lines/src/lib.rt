@@ -6,8 +6,8 @@ ghost use mathlib.Core.Path.{_≡_};
 ghost use mathlib.Core.List.{[]};
 ghost use Prim.Native.Nat.{_≤_};
 ghost use lib.ListN.{length};
-ghost use Rattle.language.specs.Text.{lineFrom, lineAt};
-ghost use Rattle.lines.specs.Bounds.{startOf, endOf, ofText, LineStands};
+ghost use Rattle.language.specs.Text.{lineFrom};
+ghost use Rattle.lines.specs.Bounds.{startOf, endOf, LineStands, LineOf};
 
 // Where the line of a place starts: past the last line end before the place, since a line end belongs to the line that it ends.
 fn start(text: &[u8], place: usize) -> usize
@@ -54,7 +54,7 @@ fn of(text: &[u8], place: usize) -> &[u8]
 
 // The line at a place, out of the text that the place names.
 pub fn line<'a>(actor: &'a [u8], bindings: &'a [u8], which: Text, place: usize) -> &'a [u8]
-    ensures { λ r. ⌜ LineStands (ofText (now (actor .entry)) (now (bindings .entry)) which) (ofText (actor .entry .ptr) (bindings .entry .ptr) which) (lineAt (now (actor .entry)) (now (bindings .entry)) which place) (now r) (r .ptr) ⌝ }
+    ensures { λ r. ⌜ LineOf (now (actor .entry)) (now (bindings .entry)) (actor .entry .ptr) (bindings .entry .ptr) which place (now r) (r .ptr) ⌝ }
 {
     match which {
         Text::Actor => of(actor, place),

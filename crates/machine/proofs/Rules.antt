@@ -12,8 +12,8 @@ use Rattle.plan.specs.Items.{decodeAll}
 use Rattle.plan.specs.Layout.{portCount, groupCount, presentAt, lengthAt, codeBefore, codeFrom, codeAt}
 use Rattle.plan.specs.Sound.{check, endOf, ended, checkAll, ruleCheck, slots, unset}
 use Rattle.plan.specs.Sound.{rulesOf}
-use Rattle.machine.specs.Machine.{State, state, execAll, execRules}
-use Rattle.machine.specs.Ready.{Buffered}
+use Rattle.item_steps.specs.Machine.{State, state, execAll, execRules}
+use Rattle.item_steps.specs.Ready.{Buffered}
 use Rattle.machine.specs.Safety.{Good, SlotsFit, CodeGiven, StateHeld, Safe, Ran}
 use Rattle.machine.specs.Fires.{Fires, ruleRun, firedRun}
 use Rattle.machine.proofs.Safe.{slots-start}

@@ -12,8 +12,8 @@ use lib.Pow.{pow-pos}
 use borrow.Author.Tests.{ltb-true, ltb-false, leb-true, eqb-true, eqb-false}
 use Rattle.language.specs.Meaning.{Change}
 use Rattle.language.specs.Values.{bitOf}
-use Rattle.value.proofs.Laws.{wider-lt}
-use Rattle.value.proofs.Fits.{binary-fits, unary-fits, beside-fits, beside-within, copies-fits, range-fits, chosen-fits}
+use Rattle.bits.proofs.Laws.{wider-lt}
+use Rattle.ranges.proofs.Fits.{binary-fits, unary-fits, beside-fits, beside-within, copies-fits, range-fits, chosen-fits}
 use Rattle.plan.specs.declared.Item.{Item}
 use Rattle.plan.specs.declared.Item.the-variants.{Const, Port, Let, Cell, Range, Copies, Beside, Before, Between, Choice, Arm, Keep, Assign, Write, Bad}
 use Rattle.plan.specs.Layout.{portCount, portAt, memoryWidthAt}
@@ -29,10 +29,10 @@ use Rattle.plan.proofs.Tests.{and-left, and-right}
 use Rattle.soundness.proofs.Laws.{pushes, output-facts}
 use Rattle.item_widths.proofs.Laws.{keepable-there}
 use Rattle.soundness.proofs.Turns.{check-broken}
-use Rattle.machine.specs.Machine.{State, state, cellOf, pick, writeTo, exec1}
-use Rattle.machine.specs.Ready.{valueOf, Asks}
+use Rattle.item_steps.specs.Machine.{State, state, cellOf, pick, writeTo, exec1}
+use Rattle.item_steps.specs.Ready.{valueOf, Asks}
 use Rattle.machine.specs.Safety.{Good, Fit, SlotsFit, CodeGiven, StateHeld, Safe}
-use Rattle.machine.proofs.Leaves.{leave}
+use Rattle.item_steps.proofs.Leaves.{leave}
 
 -- ---- what the check of the rest says
 

@@ -15,8 +15,8 @@ use Rattle.plan.specs.Items.{itemAt, takesOf}
 use Rattle.plan.specs.Waits.{top}
 use Rattle.soundness.proofs.Turns.{rest, rest-next, rest-none}
 use Rattle.plan.proofs.Waits.{length-top}
-use Rattle.machine.specs.Machine.{State, state, exec1, execAll}
-use Rattle.machine.specs.Ready.{Asks, Ready, Buffered, Left}
+use Rattle.item_steps.specs.Machine.{State, state, exec1, execAll}
+use Rattle.item_steps.specs.Ready.{Asks, Ready, Buffered, Left}
 use Rattle.machine.specs.Safety.{Good, CodeGiven, StateHeld, Safe, Ran}
 use Rattle.machine.proofs.Safe.{Found, found}
 

@@ -10,7 +10,7 @@ use lib.ListN.{length, getD, set, take, drop, replicate, length-replicate, getD-
 use lib.Seq.{paste, paste-suc, take-paste, take-length, getD-set-same, getD-set-other, ext-getD}
 use borrow.Author.Tests.{eqb-true, eqb-false}
 use Rattle.language.specs.Meaning.{touched, twice, written}
-use Rattle.machine.specs.Ready.{Buffered}
+use Rattle.item_steps.specs.Ready.{Buffered}
 
 pub paste-next : (d : List ℕ) (at : ℕ) (s l : List ℕ) (i : ℕ) → l ≡ paste d at s i → at + i < length d → i < length s → set l (at + i) (getD s i 0) ≡ paste d at s (i + 1)
 paste-next d at s l i e h j = rw (e, add-one i) (paste-suc d at s i 0 h j)

@@ -8,7 +8,7 @@ use Rattle.language.specs.Meaning.{Change}
 use Rattle.plan.specs.Items.{decodeAll}
 use Rattle.plan.specs.Layout.{portCount, groupCount, presentAt, lengthAt, codeBefore, codeFrom, codeAt}
 use Rattle.plan.specs.Sound.{ruleCheck, ended, slots}
-use Rattle.machine.specs.Machine.{State, state, execAll, execRules}
+use Rattle.item_steps.specs.Machine.{State, state, execAll, execRules}
 use Rattle.machine.specs.Safety.{CodeGiven, Ran}
 
 -- a rule whose code can be run: it stands in the plan, it was checked, and what it reads fits

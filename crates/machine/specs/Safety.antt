@@ -10,8 +10,8 @@ use Rattle.plan.specs.Layout.{portCount, portAt, memoryWidthAt}
 use Rattle.plan.specs.Sound.{Check, check, Rules, checkAll, endOf, ended, inputOk, memoryOk, unset}
 use Rattle.plan.specs.Items.{decodeAll}
 use Rattle.plan.specs.Sound.{rulesOf}
-use Rattle.machine.specs.Machine.{State, state}
-use Rattle.machine.specs.Ready.{Buffered}
+use Rattle.item_steps.specs.Machine.{State, state, execAll}
+use Rattle.item_steps.specs.Ready.{Buffered}
 
 -- the rest of the check succeeds
 abbrev pub Good : Rules → List Item → Check → Type 0
@@ -65,3 +65,7 @@ itemsFrom p from items = decodeAll (take (4 * items) (drop from p))
 abbrev pub SafeItems : (p values memory slots outputs : List ℕ) (from items : ℕ) → Type 0
 SafeItems p values memory slots outputs from items =
     (from + 4 * items ≤ length p) × (present : ℕ) × (taken : ℕ) × CodeGiven p present values memory × Safe p present taken (itemsFrom p from items) (state [] slots outputs [])
+
+-- what they make of some writes, where nothing waits
+abbrev pub itemsRun : (p values memory slots outputs : List ℕ) (from items : ℕ) → List (Change ℕ) → State
+itemsRun p values memory slots outputs from items qs = execAll values memory (itemsFrom p from items) (state [] slots outputs qs)

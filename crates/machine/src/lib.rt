@@ -2,20 +2,18 @@
 // What comes in: a sound plan, the rules that fire, values, memory. What goes out: the outputs, the
 // cells as they will be, and whether a cell was written twice.
 mod code;
-mod steps;
 mod tables;
 
 use code::run_rules;
 ghost use Prim.Native.Nat.{ℕ, _≤_, _<_};
 ghost use lib.ListN.{length, getD};
+ghost use Rattle.language.specs.Limits.{limits};
 ghost use Rattle.plan.specs.Layout.{portCount, groupCount};
 ghost use Rattle.machine.specs.Fires.{Fires, FiredRan};
-ghost use Rattle.machine.specs.Tables.{Tables};
+ghost use Rattle.item_steps.specs.Tables.{Tables};
 use plan::group_count;
 use plan::place;
 use plan::port_count;
-pub use steps::slot;
-pub use steps::wide;
 pub use tables::copy;
 use tables::prepare;
 
@@ -37,10 +35,11 @@ pub fn act(
     next: &mut [u64],
     changed: &mut [u32],
 ) -> Acted
-    requires { ⌜ (portCount (now plan) ≤ 16) × (groupCount (now plan) ≤ length (now fired)) ⌝ }
+    requires { ⌜ (portCount (now plan) ≤ limits .ports) × (groupCount (now plan) ≤ length (now fired)) ⌝ }
     requires { ⌜ Tables (now memory) (now stack) (now next) (now changed) ⌝ }
     requires { ⌜ ((j : ℕ) → j < groupCount (now plan) → Fires (now plan) (now values) (now memory) (getD (now fired) j 0)) ⌝ }
-    ensures { λ r. ⌜ FiredRan (now (plan .entry)) (now (values .entry)) (now (memory .entry)) (now (fired .entry)) (r .outputs) (now (next .exit)) (now (changed .exit)) (r .clash) ⌝ }
+    ensures { λ r. ⌜ FiredRan (now (plan .entry)) (now (values .entry)) (now (memory .entry)) (now (fired .entry))
+        (r .outputs) (now (next .exit)) (now (changed .exit)) (r .clash) ⌝ }
 {
     let groups = place(group_count(plan));
     let ports = place(port_count(plan));

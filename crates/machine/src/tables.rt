@@ -5,7 +5,7 @@ ghost use mathlib.Core.List.{[]};
 ghost use Prim.Native.Nat.{ℕ, _+_, _≤_, _<_};
 ghost use lib.ListN.{length, getD};
 ghost use lib.Seq.{paste};
-ghost use Rattle.machine.specs.Ready.{Buffered};
+ghost use Rattle.item_steps.specs.Ready.{Buffered};
 
 // The first n numbers of one table, into another from a place on.
 pub fn copy(to: &mut [u64], at: usize, from: &[u64], n: usize)

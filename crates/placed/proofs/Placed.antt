@@ -8,8 +8,7 @@ use Rattle.language.specs.Words.{Word, words, wordsOf}
 use Rattle.language.specs.Reader.{tree}
 use Rattle.language.specs.Parser.{parse}
 use Rattle.language.specs.Tree.{Ty, Amount, Expr, Declared, Port, Memory, Entry, Val, Assignment, Statement, Rule, Group, Actor, spelledOf, memoryNames}
-use Rattle.language.specs.Grammar.{Types, TypeSort, t-plus, t-minus, t-term, t-number, t-environment, t-port, t-log, t-ceil, t-floor, t-max, t-within, t-entry, t-one, Amounts, a-given, a-value}
-use Rattle.language.specs.Grammar.{Sort, Derives, d-if, d-expr, d-cond, d-bins, d-bin, d-up, d-unary, d-plain, d-bits, d-typed, d-copies, d-joined, d-part, d-beside, d-cell, d-read, d-inside, d-base, d-bit, d-range, d-case, d-arm, d-default}
+use Rattle.language.specs.Grammar.{Types, TypeSort, t-plus, t-minus, t-term, t-number, t-environment, t-port, t-log, t-ceil, t-floor, t-max, t-within, t-entry, t-one, Amounts, a-given, a-value, Sort, Derives, d-if, d-expr, d-cond, d-bins, d-bin, d-up, d-unary, d-plain, d-bits, d-typed, d-copies, d-joined, d-part, d-beside, d-cell, d-read, d-inside, d-base, d-bit, d-range, d-case, d-arm, d-default}
 use Rattle.language.specs.Grammar.{Declares, y-untyped, y-typed, Vals, v-val, Assigns, i-assign, i-write, Statements, s-alone, s-let, Entries, e-present, e-absent, Rules, r-rule, Groups, g-or, Constraints, k-or, k-and, Ports, o-input, o-output, Memories, h-reg, h-ff, Names, n-name, Actors, actor}
 use Rattle.language.proofs.Main.{grammar-correct}
 use Rattle.words.proofs.Runs.{IsRun, AllRuns, noMore, more, all-runs}

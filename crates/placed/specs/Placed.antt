@@ -5,10 +5,8 @@ use Prim.Native.Nat.{ℕ}
 use lib.ListN.{drop}
 use Rattle.language.specs.Text.{Name}
 use Rattle.language.specs.Words.{Numeral, span, nameByte}
-use Rattle.language.specs.Tree.{Ty, number, environment, port, plus, minus, log, ceil, floor, most, entry, within, Breadth, bits, Amount, given, value}
-use Rattle.language.specs.Tree.{Expr, plain, sized, copies, read, cell, bit, range, inside, joined, beside, unary, binary, choice, either, select, arm, default}
-use Rattle.language.specs.Tree.{Declared, untyped, Port, Memory, Entry, Val, Assignment, assign, write, Statement, alone, scoped, Rule, Group, Actor}
-use Rattle.words.specs.Constant.{constantAt}
+use Rattle.language.specs.Tree.{Ty, number, environment, port, plus, minus, log, ceil, floor, most, entry, within, Breadth, bits, Amount, given, value, Expr, plain, sized, copies, read, cell, bit, range, inside, joined, beside, unary, binary, choice, either, select, arm, default, Declared, untyped, Port, Memory, Entry, Val, Assignment, assign, write, Statement, alone, scoped, Rule, Group, Actor}
+use Rattle.sized_constants.specs.Constant.{constantAt}
 
 -- "The longest word wins": the name that stands at a place is all name bytes from there on
 abbrev pub nameFrom : List ℕ → ℕ → List ℕ

@@ -3,6 +3,14 @@ use mathlib.Core.List.{List, [], _∷_}
 use Prim.Native.Nat.{ℕ, zero, suc, _+_, _*_, _/_, _%_}
 use lib.ListN.{getD, take, drop}
 
+-- the greatest number of a plan, which has 32 bits
+abbrev pub greatest : ℕ
+greatest = 4294967295
+
+-- no section begins as far out, whatever the counts before it say: 16 times 2 to the power of 32
+abbrev pub farthest : ℕ
+farthest = 68719476736
+
 module _ (p : List ℕ) where
   -- the form number
   abbrev pub form : ℕ

@@ -6,7 +6,7 @@ ghost use lib.Dec.{ltb};
 ghost use lib.ListN.{length, getD};
 ghost use Rattle.language.specs.Values.{bitOf};
 ghost use Rattle.plan.specs.Layout.{portCount, portAt, memoriesFrom, memoryCount, memoryWidthAt, memorySizeAt, cellsBefore, groupsFrom, groupCount, groupAt, rulesBefore, rulesFrom, ruleCount, presentAt, absentAt, lengthAt, codeBefore, codeFrom, codeCount};
-ghost use Rattle.plan.specs.Layout.{sumOf};
+ghost use Rattle.plan.specs.Layout.{sumOf, greatest, farthest};
 
 // A number of 32 bits as a place: the one place that knows that none of them is too large for one.
 pub fn place(x: u32) -> usize
@@ -39,7 +39,7 @@ pub fn number(plan: &[u32], at: usize) -> u32
 // The sum of n numbers of the plan, each `step` places after the one before.
 fn sum(plan: &[u32], from: usize, step: usize, n: u32) -> usize
     requires { ⌜ (from < 137438953472) × (step ≤ 3) ⌝ }
-    ensures { λ r. ⌜ (r ≡ sumOf (now (plan .entry)) from step n) × (r ≤ 4294967295 * n) ⌝ }
+    ensures { λ r. ⌜ (r ≡ sumOf (now (plan .entry)) from step n) × (r ≤ greatest * n) ⌝ }
 {
     let mut total = 0usize;
     let mut at = from;
@@ -90,7 +90,7 @@ pub fn memory_size(plan: &[u32], m: u32) -> u32
 
 // The cells of the first m memories.
 pub fn cells_before(plan: &[u32], m: u32) -> usize
-    ensures { λ r. ⌜ (r ≡ cellsBefore (now (plan .entry)) m) × (r ≤ 4294967295 * m) ⌝ }
+    ensures { λ r. ⌜ (r ≡ cellsBefore (now (plan .entry)) m) × (r ≤ greatest * m) ⌝ }
 {
     sum(plan, memories_from(plan) + 2, 2, m)
 }
@@ -131,13 +131,13 @@ pub fn groups_in(plan: &[u32], from: usize) -> u32
 
 // The rules of the first g groups.
 pub fn rules_before(plan: &[u32], g: u32) -> usize
-    ensures { λ r. ⌜ (r ≡ rulesBefore (now (plan .entry)) g) × (r ≤ 4294967295 * g) ⌝ }
+    ensures { λ r. ⌜ (r ≡ rulesBefore (now (plan .entry)) g) × (r ≤ greatest * g) ⌝ }
 {
     sum(plan, groups_from(plan) + 1, 1, g)
 }
 
 pub fn rules_from(plan: &[u32]) -> usize
-    ensures { λ r. ⌜ (r ≡ rulesFrom (now (plan .entry))) × (r < 68719476736) ⌝ }
+    ensures { λ r. ⌜ (r ≡ rulesFrom (now (plan .entry))) × (r < farthest) ⌝ }
 {
     groups_from(plan) + 1 + place(group_count(plan))
 }
@@ -169,7 +169,7 @@ pub struct Masks {
 }
 
 pub fn masks_in(plan: &[u32], from: usize, r: u32) -> Masks
-    requires { ⌜ (from ≡ rulesFrom (now plan)) × (from < 68719476736) ⌝ }
+    requires { ⌜ (from ≡ rulesFrom (now plan)) × (from < farthest) ⌝ }
     ensures { λ x. ⌜ (x .present ≡ presentAt (now (plan .entry)) r) × (x .absent ≡ absentAt (now (plan .entry)) r) ⌝ }
 {
     Masks {
@@ -187,7 +187,7 @@ pub fn length_at(plan: &[u32], r: u32) -> u32
 
 // The numbers of code of the first r rules.
 pub fn code_before(plan: &[u32], r: u32) -> usize
-    ensures { λ x. ⌜ (x ≡ codeBefore (now (plan .entry)) r) × (x ≤ 4294967295 * r) ⌝ }
+    ensures { λ x. ⌜ (x ≡ codeBefore (now (plan .entry)) r) × (x ≤ greatest * r) ⌝ }
 {
     sum(plan, rules_from(plan) + 3, 3, r)
 }

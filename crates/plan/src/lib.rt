@@ -75,9 +75,9 @@ pub enum Item {
 }
 
 // An item as numbers: its operation and three operands.
-pub struct Four {
-    pub op: u32,
-    pub a: u32,
-    pub b: u32,
-    pub c: u32,
+struct Four {
+    op: u32,
+    a: u32,
+    b: u32,
+    c: u32,
 }

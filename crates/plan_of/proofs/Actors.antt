@@ -20,8 +20,8 @@ use Rattle.plan_of.specs.Formed.{FormedRule, FormedGroup}
 use Rattle.plan_of.proofs.Rules.{FineStatement, valsIn}
 use Rattle.settled.specs.Form.{six, RULED}
 use Rattle.settled.specs.Settled.{settledEntry, settledRule, settledGroup, settledSigned, settledMemory, settledOf}
-use Rattle.row11_sizes.specs.Effects.{soonerOf, endsOf, effectOf}
-use Rattle.row11_sizes.specs.Steps.{State, seenOf, one-if, emitsOf, heldOf, aroundOf, pick, endedOf, stepOf, begin}
+use Rattle.size_walk.specs.Effects.{soonerOf, endsOf, effectOf}
+use Rattle.size_walk.specs.Steps.{State, seenOf, one-if, emitsOf, heldOf, aroundOf, pick, endedOf, stepOf, begin}
 use Rattle.plan_of.proofs.Firsts.{told, told-after}
 use Rattle.plan_of.proofs.Walks.{Goes, goes-both, goes-six}
 use Rattle.plan_of.proofs.Left.{coded}

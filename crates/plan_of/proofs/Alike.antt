@@ -14,10 +14,10 @@ use Rattle.plan.specs.declared.Item.the-variants.{Const, Port, Let as Kept, Cel
 use Rattle.plan.specs.Items.{decodeAll}
 use Rattle.plan.specs.Layout.{portCount, memoryCount, portAt, presentAt, absentAt, groupCount, groupAt, rulesBefore, codeAt}
 use Rattle.plan.specs.Sound.{Rules, Check, check, broken, test, inputOk, check1, checkStep, checkAll, Ended, ended, unended, endOf, sectionsOk, ruleCheck, joined, groupCheck, groupsCheck, soundOf}
-use Rattle.machine.specs.Machine.{State, state, exec1, execAll, execRules}
+use Rattle.item_steps.specs.Machine.{State, state, exec1, execAll, execRules}
 use Rattle.judged.specs.Groups.{bitsAgree, matchesOf, matching, Fired, fired, unfired, firing}
 use Rattle.judged.specs.Tests.{allBelow, inputFits, memoryFits, fitting, counts}
-use Rattle.cycle.specs.Cycle.{refusedBy, ends, soundCycle, cycleOf}
+use Rattle.turn.specs.Cycle.{refusedBy, ends, soundCycle, cycleOf}
 use Rattle.plan_of.specs.Theorems.{SameGiven, Alike}
 use Rattle.placed.proofs.Names.{both-true}
 use Rattle.plan_of.proofs.Masks.{bit-small}

@@ -26,8 +26,8 @@ use Rattle.plan_of.proofs.Extents.{IsWide}
 use Rattle.plan_of.proofs.Rules.{FineAssignment, FineVals, FineStatement, valsIn}
 use Rattle.settled.specs.Form.{six}
 use Rattle.settled.specs.Settled.{settled, settledPort, settledCell, settledAssignment, settledKept, slotsFrom, settledVals, settledBody}
-use Rattle.row11_sizes.specs.Effects.{soonerOf}
-use Rattle.row11_sizes.specs.Steps.{State}
+use Rattle.size_walk.specs.Effects.{soonerOf}
+use Rattle.size_walk.specs.Steps.{State}
 use Rattle.plan_of.proofs.Firsts.{told, told-both, sooner-assoc, sooner-comm}
 use Rattle.plan_of.proofs.Walks.{Goes, goes-none, goes-both, after}
 use Rattle.plan_of.proofs.Left.{shape, Small, coded, Left, each-both}

@@ -16,8 +16,8 @@ use Rattle.language.specs.Sizes.{Setting}
 use Rattle.language.specs.Meaning.{portAt}
 use Rattle.placed.specs.Placed.{Every}
 use Rattle.placed.proofs.Every.{every-map, append-every, every-flat}
-use Rattle.row13_plan.specs.Made.{Item, counted, picked, rulesUpTo, maskUpTo, bitOf, portNumbers, memoryNumbers, groupNumbers}
-use Rattle.row13_plan.specs.Made.{ruleNumbers as numbersOfRule}
+use Rattle.section_items.specs.Items.{Item, counted, picked, rulesUpTo, maskUpTo, bitOf, portNumbers, memoryNumbers, groupNumbers}
+use Rattle.section_items.specs.Items.{ruleNumbers as numbersOfRule}
 use Rattle.plan_of.specs.PlanOf.{maskOf, portNumber}
 use Rattle.plan_of.specs.PlanOf.{memoryNumbers as numbersOfMemory}
 use Rattle.settled.specs.Settled.{one-if}

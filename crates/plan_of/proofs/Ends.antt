@@ -19,9 +19,9 @@ use Rattle.plan_of.specs.PlanOf.{widthOf}
 use Rattle.plan_of.specs.Formed.{whole}
 use Rattle.plan_of.proofs.Extents.{IsWide}
 use Rattle.settled.specs.Form.{six, ASSIGN, WRITE, VAL, TYPED}
-use Rattle.row11_sizes.specs.declared.Emits.the-variants.{Adds}
-use Rattle.row11_sizes.specs.Effects.{soonerOf, has, endsOf, unlessAt, fittedAt, assignEffect, writeEffect, valEffect, keptOf, typedEffect, effectOf}
-use Rattle.row11_sizes.specs.Steps.{State, seenOf, one-if, emitsOf, keptIn, heldOf, aroundOf, pick, endedOf, stepOf}
+use Rattle.size_walk.specs.declared.Emits.the-variants.{Adds}
+use Rattle.size_walk.specs.Effects.{soonerOf, has, endsOf, unlessAt, fittedAt, assignEffect, writeEffect, valEffect, keptOf, typedEffect, effectOf}
+use Rattle.size_walk.specs.Steps.{State, seenOf, one-if, emitsOf, keptIn, heldOf, aroundOf, pick, endedOf, stepOf}
 use Rattle.plan_of.proofs.Firsts.{told, told-both, told-after, sooner-assoc, sooner-comm}
 use Rattle.plan_of.proofs.Walks.{Goes, goes-both, goes-six, after}
 use Rattle.plan_of.proofs.Left.{shape, Small, coded, Left, more, both-code}
@@ -143,7 +143,7 @@ module _ (st : State) (q p k : ℕ) (items : List ℕ) (is : List Item) where
     unfoldable typed : (a b d : Bool) (f : Place) (c : List ℕ) (br sp : ℕ) → State
     typed a b d f c br sp = done (done st f c (st .slots) br sp) (soonerOf (unlessAt a p) (unlessAt b q)) (c ++ (11 ∷ k ∷ pick d w 99 ∷ 0 ∷ [])) (set (st .slots) k (pick d w 99)) br sp
 
-    kept-pick : (d : Bool) (v : Rattle.row11_sizes.specs.declared.Seen.Seen) → keptOf v d w ≡ pick d w 99
+    kept-pick : (d : Bool) (v : Rattle.size_walk.specs.declared.Seen.Seen) → keptOf v d w ≡ pick d w 99
     unfolding keptOf pick
     kept-pick true v = refl
     kept-pick false v = refl

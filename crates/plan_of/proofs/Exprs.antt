@@ -29,9 +29,9 @@ use Rattle.plan_of.proofs.Extents.{IsWide}
 use Rattle.plan_of.proofs.Checks.{plain-small}
 use Rattle.settled.specs.Form.{six}
 use Rattle.settled.specs.Settled.{placed, settledBreadth, settledAmount, settledCell, settledPort, settledRead, settled}
-use Rattle.row11_sizes.specs.declared.Emits.the-variants.{Adds}
-use Rattle.row11_sizes.specs.Effects.{has, unaryWide, binaryWide, beforeWidth, betweenWidth}
-use Rattle.row11_sizes.specs.Steps.{State, emitsOf}
+use Rattle.size_walk.specs.declared.Emits.the-variants.{Adds}
+use Rattle.size_walk.specs.Effects.{has, unaryWide, binaryWide, beforeWidth, betweenWidth}
+use Rattle.size_walk.specs.Steps.{State, emitsOf}
 use Rattle.plan_of.proofs.Walks.{after}
 use Rattle.plan_of.proofs.Left.{shape, Small, Left, tried, Emitted, left-1, left-2}
 use Rattle.plan_of.proofs.Parts.{left-begun, left-part, left-joined, left-beside, three, left-choice, opened, left-select}
@@ -440,33 +440,63 @@ module _ (s : Setting) where
     unfolding extent start settled code
     whole-joined p e st r = left-joined st (start e) p (items e) (code s lets (st .cases) e) (X e) r
 
+    -- ---- by induction: the parts leave theirs from any state that holds the `let`s
+
+    abbrev Leaves : Kind → Expr → Type 0
+    Leaves k e = (st : State) → LetsHold (st .slots) lets → R (seat k) e st
+
+    at-seat : (k : Kind) → IsPart k → (e : Expr) → FormedAt ms whole e → Leaves whole e → Leaves k e
+    at-seat k t e f r st h = seated k t e st (small (st .slots) h e whole f) (r st h)
+
+    -- one part, after which the expression stands
+    part-1 : (e a : Expr) → FormedAt ms whole a → ((st : State) → Small (X a) → R whole a st → R whole e st) → Leaves whole a → Leaves whole e
+    part-1 e a f g r st h = g st (small (st .slots) h a whole f) (r st h)
+
+    parts-of-binary : (o : Binary) (a b : Expr) → FormedAt ms whole a → FormedAt ms whole b → Leaves whole a → Leaves whole b → Leaves whole (binary o a b)
+    parts-of-binary o a b f g r q st h = whole-binary o a b st (small (st .slots) h a whole f) (small (st .slots) h b whole g) (r st h) (q (next whole a st (r st h)) h)
+
+    parts-of-choice : (c a b : Expr) → FormedAt ms whole c → FormedAt ms whole a → FormedAt ms whole b → Leaves whole c → Leaves whole a → Leaves whole b → Leaves whole (choice c a b)
+    parts-of-choice c a b i f g r q z st h =
+        let u = next whole c st (r st h) in
+        whole-choice c a b st (small (st .slots) h c whole i) (small (st .slots) h a whole f) (small (st .slots) h b whole g) (r st h) (q u h) (z (next whole a u (q u h)) h)
+
+    parts-of-either : (p : ℕ) (c a b : Expr) → FormedAt ms whole c → FormedAt ms whole a → FormedAt ms whole b → Leaves whole c → Leaves whole a → Leaves whole b → Leaves whole (either p c a b)
+    parts-of-either p c a b i f g r q z st h =
+        let u = next whole c st (r st h) in
+        whole-either p c a b st (small (st .slots) h c whole i) (small (st .slots) h a whole f) (small (st .slots) h b whole g) (r st h) (q u h) (z (next whole a u (q u h)) h)
+
+    parts-of-select : (p : ℕ) (e a : Expr) → FormedAt ms whole e → FormedAt ms arms a → Leaves whole e → Leaves arms a → Leaves whole (select p e a)
+    parts-of-select p e a f g r q st h =
+        let d = r st h in
+        whole-select p e a st (small (st .slots) h e whole f) (small (st .slots) h a arms g) d (q (opened st (start e) p (shape whole (X e)) (faultsOf (X e)) (d .c) (d .br) (d .sp)) h)
+
+    parts-of-beside : (a b : Expr) → FormedAt ms whole b → Leaves parts a → Leaves whole b → Leaves parts (beside a b)
+    parts-of-beside a b g r q st h = parts-beside a b st (small (st .slots) h b whole g) (r st h) (q (next parts a st (r st h)) h)
+
+    parts-of-arm : (n : Numeral) (e r : Expr) → FormedAt ms whole e → FormedAt ms arms r → Leaves whole e → Leaves arms r → Leaves arms (arm n e r)
+    parts-of-arm n e r f g q z st h = whole-arm n e r st (small (st .slots) h e whole f) (small (st .slots) h r arms g) (q st h) (z (next whole e st (q st h)) h)
+
     pub expr : (e : Expr) (k : Kind) → FormedAt ms k e → (st : State) → LetsHold (st .slots) lets → R (seat k) e st
-    expr (plain n) k f st h = seated k (f .0) (plain n) st (small (st .slots) h (plain n) whole (tt, f .1)) (whole-plain n st (f .1))
-    expr (sized w a) k f st h = seated k f (sized w a) st (small (st .slots) h (sized w a) whole tt) (whole-sized w a st)
-    expr (copies n e) k f st h = seated k (f .0) (copies n e) st (small (st .slots) h (copies n e) whole (tt, f .1)) (whole-copies n e st (small (st .slots) h e whole (f .1)) (expr e whole (f .1) st h))
-    expr (read n) k f st h = seated k (f .0) (read n) st (small (st .slots) h (read n) whole (tt, f .1)) (whole-read n st h)
-    expr (cell n a) k f st h = seated k (f .0) (cell n a) st (small (st .slots) h (cell n a) whole (tt, f .1, f .2)) (whole-cell n a st (small (st .slots) h a whole (f .2)) (expr a whole (f .2) st h))
-    expr (bit e p i) k f st h = seated k (f .0) (bit e p i) st (small (st .slots) h (bit e p i) whole (tt, f .1)) (whole-bit e p i st (small (st .slots) h e whole (f .1)) (expr e whole (f .1) st h))
-    expr (range e p i j) k f st h = seated k (f .0) (range e p i j) st (small (st .slots) h (range e p i j) whole (tt, f .1)) (whole-range e p i j st (small (st .slots) h e whole (f .1)) (expr e whole (f .1) st h))
-    expr (inside p e) k f st h = seated k (f .0) (inside p e) st (small (st .slots) h (inside p e) whole (tt, f .1)) (whole-inside p e st (expr e whole (f .1) st h))
-    expr (joined p e) k f st h = seated k (f .0) (joined p e) st (small (st .slots) h (joined p e) whole (tt, f .1)) (whole-joined p e st (expr e parts (f .1) st h))
-    expr (beside a b) whole f st h = absurd (f .0)
-    expr (beside a b) parts f st h = parts-beside a b st (small (st .slots) h b whole (f .2)) (expr a parts (f .1) st h) (expr b whole (f .2) _ h)
-    expr (beside a b) arms f st h = absurd (f .0)
-    expr (unary u e) k f st h = seated k (f .0) (unary u e) st (small (st .slots) h (unary u e) whole (tt, f .1)) (whole-unary u e st (small (st .slots) h e whole (f .1)) (expr e whole (f .1) st h))
-    expr (binary o a b) k f st h =
-        seated k (f .0) (binary o a b) st (small (st .slots) h (binary o a b) whole (tt, f .1, f .2)) (whole-binary o a b st (small (st .slots) h a whole (f .1)) (small (st .slots) h b whole (f .2)) (expr a whole (f .1) st h) (expr b whole (f .2) _ h))
-    expr (choice c a b) k f st h =
-        seated k (f .0) (choice c a b) st (small (st .slots) h (choice c a b) whole (tt, f .1, f .2, f .3))
-        (whole-choice c a b st (small (st .slots) h c whole (f .1)) (small (st .slots) h a whole (f .2)) (small (st .slots) h b whole (f .3)) (expr c whole (f .1) st h) (expr a whole (f .2) _ h) (expr b whole (f .3) _ h))
-    expr (either p c a b) k f st h =
-        seated k (f .0) (either p c a b) st (small (st .slots) h (either p c a b) whole (tt, f .1, f .2, f .3))
-        (whole-either p c a b st (small (st .slots) h c whole (f .1)) (small (st .slots) h a whole (f .2)) (small (st .slots) h b whole (f .3)) (expr c whole (f .1) st h) (expr a whole (f .2) _ h) (expr b whole (f .3) _ h))
-    expr (select p e a) k f st h =
-        seated k (f .0) (select p e a) st (small (st .slots) h (select p e a) whole (tt, f .1, f .2)) (whole-select p e a st (small (st .slots) h e whole (f .1)) (small (st .slots) h a arms (f .2)) (expr e whole (f .1) st h) (expr a arms (f .2) _ h))
-    expr (arm n e r) whole f st h = absurd (f .0)
-    expr (arm n e r) parts f st h = absurd (f .0)
-    expr (arm n e r) arms f st h = whole-arm n e r st (small (st .slots) h e whole (f .1)) (small (st .slots) h r arms (f .2)) (expr e whole (f .1) st h) (expr r arms (f .2) _ h)
-    expr (default p e) whole f st h = absurd (f .0)
-    expr (default p e) parts f st h = absurd (f .0)
-    expr (default p e) arms f st h = whole-default p e st (expr e whole (f .1) st h)
+    expr (plain n) k f = at-seat k (f .0) (plain n) (tt, f .1) (λ st h. whole-plain n st (f .1))
+    expr (sized w a) k f = at-seat k f (sized w a) tt (λ st h. whole-sized w a st)
+    expr (copies n e) k f = at-seat k (f .0) (copies n e) (tt, f .1) (part-1 (copies n e) e (f .1) (whole-copies n e) (expr e whole (f .1)))
+    expr (read n) k f = at-seat k (f .0) (read n) (tt, f .1) (λ st h. whole-read n st h)
+    expr (cell n a) k f = at-seat k (f .0) (cell n a) (tt, f .1, f .2) (part-1 (cell n a) a (f .2) (whole-cell n a) (expr a whole (f .2)))
+    expr (bit e p i) k f = at-seat k (f .0) (bit e p i) (tt, f .1) (part-1 (bit e p i) e (f .1) (whole-bit e p i) (expr e whole (f .1)))
+    expr (range e p i j) k f = at-seat k (f .0) (range e p i j) (tt, f .1) (part-1 (range e p i j) e (f .1) (whole-range e p i j) (expr e whole (f .1)))
+    expr (inside p e) k f = at-seat k (f .0) (inside p e) (tt, f .1) (part-1 (inside p e) e (f .1) (λ st g r. whole-inside p e st r) (expr e whole (f .1)))
+    expr (joined p e) k f = at-seat k (f .0) (joined p e) (tt, f .1) (λ st h. whole-joined p e st (expr e parts (f .1) st h))
+    expr (beside a b) whole f = absurd (f .0)
+    expr (beside a b) parts f = parts-of-beside a b (f .2) (expr a parts (f .1)) (expr b whole (f .2))
+    expr (beside a b) arms f = absurd (f .0)
+    expr (unary u e) k f = at-seat k (f .0) (unary u e) (tt, f .1) (part-1 (unary u e) e (f .1) (whole-unary u e) (expr e whole (f .1)))
+    expr (binary o a b) k f = at-seat k (f .0) (binary o a b) (tt, f .1, f .2) (parts-of-binary o a b (f .1) (f .2) (expr a whole (f .1)) (expr b whole (f .2)))
+    expr (choice c a b) k f = at-seat k (f .0) (choice c a b) (tt, f .1, f .2, f .3) (parts-of-choice c a b (f .1) (f .2) (f .3) (expr c whole (f .1)) (expr a whole (f .2)) (expr b whole (f .3)))
+    expr (either p c a b) k f = at-seat k (f .0) (either p c a b) (tt, f .1, f .2, f .3) (parts-of-either p c a b (f .1) (f .2) (f .3) (expr c whole (f .1)) (expr a whole (f .2)) (expr b whole (f .3)))
+    expr (select p e a) k f = at-seat k (f .0) (select p e a) (tt, f .1, f .2) (parts-of-select p e a (f .1) (f .2) (expr e whole (f .1)) (expr a arms (f .2)))
+    expr (arm n e r) whole f = absurd (f .0)
+    expr (arm n e r) parts f = absurd (f .0)
+    expr (arm n e r) arms f = parts-of-arm n e r (f .1) (f .2) (expr e whole (f .1)) (expr r arms (f .2))
+    expr (default p e) whole f = absurd (f .0)
+    expr (default p e) parts f = absurd (f .0)
+    expr (default p e) arms f = λ st h. whole-default p e st (expr e whole (f .1) st h)

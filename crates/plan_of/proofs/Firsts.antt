@@ -8,7 +8,7 @@ use Rattle.language.specs.Text.{earliest}
 use Rattle.words.specs.declared.Place.{Place}
 use Rattle.words.specs.declared.Place.the-variants.{At, Nowhere}
 use Rattle.words.specs.Found.{earlierOf, placeTold}
-use Rattle.row11_sizes.specs.Effects.{soonerOf}
+use Rattle.size_walk.specs.Effects.{soonerOf}
 
 -- the place of the earliest of some faults
 abbrev pub told : List ℕ → Place

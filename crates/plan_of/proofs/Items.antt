@@ -20,9 +20,9 @@ use Rattle.plan_of.specs.PlanOf.{constant}
 use Rattle.plan_of.specs.Formed.{whole}
 use Rattle.settled.specs.Form.{six, BITS, BIG, AMOUNT, PLAIN, COPIES, READ, CELL, HELD, RANGE, UNARY, BINARY, CHOICE, EITHER, ARM}
 use Rattle.settled.specs.Settled.{amount}
-use Rattle.row11_sizes.specs.declared.Emits.the-variants.{Adds}
-use Rattle.row11_sizes.specs.Effects.{soonerOf, has, givesOf, endsOf, testedOf, unaryWide, binaryWide, bigEffect, sizedEffect, plainEffect, readEffect, usedEffect, copiesEffect, cellEffect, rangeEffect, unaryEffect, binaryEffect, choiceEffect, armEffect, effectOf}
-use Rattle.row11_sizes.specs.Steps.{State, seenOf, one-if, emitsOf, heldOf, aroundOf, pick, endedOf, stepOf}
+use Rattle.size_walk.specs.declared.Emits.the-variants.{Adds}
+use Rattle.size_walk.specs.Effects.{soonerOf, has, givesOf, endsOf, testedOf, unaryWide, binaryWide, bigEffect, sizedEffect, plainEffect, readEffect, usedEffect, copiesEffect, cellEffect, rangeEffect, unaryEffect, binaryEffect, choiceEffect, armEffect, effectOf}
+use Rattle.size_walk.specs.Steps.{State, seenOf, one-if, emitsOf, heldOf, aroundOf, pick, endedOf, stepOf}
 use Rattle.plan_of.proofs.Walks.{goes-both, goes-six, after}
 use Rattle.plan_of.proofs.Left.{shape, coded, Left, tried, applied, through-1, Over-1, through-2, Over-2}
 use Rattle.plan_of.proofs.Parts.{chooses, Over-3}

@@ -18,10 +18,10 @@ use Rattle.plan_of.specs.PlanOf.{widthOf}
 use Rattle.plan_of.specs.Formed.{Kind, whole, parts, arms}
 use Rattle.plan_of.proofs.Extents.{IsWide}
 use Rattle.settled.specs.Form.{six}
-use Rattle.row11_sizes.specs.declared.Effect.{Effect}
-use Rattle.row11_sizes.specs.declared.Emits.{Emits}
-use Rattle.row11_sizes.specs.Effects.{soonerOf, has, givesOf, faultyOf, testedOf, throughOf}
-use Rattle.row11_sizes.specs.Steps.{State, one-if, emitsOf, stepOf}
+use Rattle.size_walk.specs.declared.Effect.{Effect}
+use Rattle.size_walk.specs.declared.Emits.{Emits}
+use Rattle.size_walk.specs.Effects.{soonerOf, has, givesOf, faultyOf, testedOf, throughOf}
+use Rattle.size_walk.specs.Steps.{State, one-if, emitsOf, stepOf}
 use Rattle.plan_of.proofs.Firsts.{told-after}
 use Rattle.plan_of.proofs.Walks.{Goes, goes-both, goes-six, after}
 

@@ -20,10 +20,10 @@ use Rattle.language.specs.Sizes.{Setting}
 use Rattle.language.specs.Meaning.{Given, Change, cellWidths, fitting, firing, fired, unfired, Fired, inputsFit, fits, inRules, assignsOf, writesOf, twice, written, assignedTo, Outcome, refusedBy, acts, cycle, Turn, run}
 use Rattle.plan.specs.Layout.{portCount, memoryCount, cellsBefore, groupCount, groupAt, rulesBefore}
 use Rattle.plan.specs.Sound.{soundOf}
-use Rattle.machine.specs.Machine.{state, execRules}
+use Rattle.item_steps.specs.Machine.{state, execRules}
 use Rattle.judged.specs.Tests.{counts}
-use Rattle.cycle.specs.Cycle.{ends, soundCycle, cycleOf}
-use Rattle.cycle.specs.Cycle as PlanCycle
+use Rattle.turn.specs.Cycle.{ends, soundCycle, cycleOf}
+use Rattle.turn.specs.Cycle as PlanCycle
 use Rattle.judged.specs.Groups as PlanGroups
 use Rattle.judged.specs.Tests as PlanTests
 use Rattle.cycle.specs.Run.{result, tablesFit, runOf, cyclesOf, turnsIn, leftBy}

@@ -21,10 +21,10 @@ use Rattle.plan_of.specs.PlanOf.{widthOf}
 use Rattle.plan_of.specs.Formed.{Kind, whole, parts, arms}
 use Rattle.plan_of.proofs.Extents.{chosenExtent}
 use Rattle.settled.specs.Form.{six, START, JOINED, BESIDE, SELECT, SELECTED}
-use Rattle.row11_sizes.specs.declared.Effect.{Effect}
-use Rattle.row11_sizes.specs.declared.Emits.the-variants.{Nothing, Adds}
-use Rattle.row11_sizes.specs.Effects.{soonerOf, has, givesOf, faultyOf, testedOf, throughOf, begunEffect, joinedEffect, besideEffect, selectEffect, selectedEffect, endsOf, effectOf}
-use Rattle.row11_sizes.specs.Steps.{State, seenOf, one-if, emitsOf, heldOf, aroundOf, pick, endedOf, stepOf}
+use Rattle.size_walk.specs.declared.Effect.{Effect}
+use Rattle.size_walk.specs.declared.Emits.the-variants.{Nothing, Adds}
+use Rattle.size_walk.specs.Effects.{soonerOf, has, givesOf, faultyOf, testedOf, throughOf, begunEffect, joinedEffect, besideEffect, selectEffect, selectedEffect, endsOf, effectOf}
+use Rattle.size_walk.specs.Steps.{State, seenOf, one-if, emitsOf, heldOf, aroundOf, pick, endedOf, stepOf}
 use Rattle.plan_of.proofs.Firsts.{told, told-after}
 use Rattle.plan_of.proofs.Walks.{Goes, goes-both, goes-six, after}
 use Rattle.plan_of.proofs.Left.{shape, Small, coded, Left, tried, applied, two, through-2, some-2, none-2, both-code, each-both}

@@ -11,7 +11,7 @@ use Rattle.language.specs.Counts.{sizeOf}
 use Rattle.language.specs.Widths.{portWidth, memoryWidth}
 use Rattle.language.specs.Sizes.{Setting}
 use Rattle.language.specs.Meaning.{portAt}
-use Rattle.row13_plan.specs.Made.{Item, itemsOf}
+use Rattle.section_items.specs.Items.{Item, itemsOf}
 use Rattle.settled.specs.Form.{six}
 use Rattle.settled.specs.Settled.{one-if, settledBody, settledEntry, settledRule, settledGroup, settledSigned, settledMemory, settledOf}
 use Rattle.plan_of.proofs.Silent.{silent-body}

@@ -18,7 +18,7 @@ use Rattle.plan_of.proofs.Rules.{valsIn}
 use Rattle.plan_of.proofs.Faultless.{fine-statement, few, few-vals}
 use Rattle.plan_of.proofs.Facts.{limit-facts, word-facts}
 use Rattle.settled.specs.Settled.{settledOf}
-use Rattle.row11_sizes.specs.Steps.{State, walk, begin}
+use Rattle.size_walk.specs.Steps.{State, walk, begin}
 use Rattle.plan_of.specs.Row11.{Measured, Sized}
 use Rattle.plan_of.proofs.Firsts.{told, sooner-none}
 use Rattle.plan_of.proofs.Walks.{goes-whole}

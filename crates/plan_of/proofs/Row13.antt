@@ -19,9 +19,10 @@ use Rattle.plan_of.specs.PlanOf.{maskOf, ruleCode, planOf}
 use Rattle.plan_of.specs.PlanOf.{ruleNumbers as numbersOfRule}
 use Rattle.plan_of.proofs.Facts.{RuleFacts, signature-short, rule-facts}
 use Rattle.plan_of.proofs.SoundSections.{mask-below}
-use Rattle.row13_plan.specs.Made.{Item, itemsOf, counted, picked, memoryNumbers, groupNumbers, ruleNumbers, planIn}
+use Rattle.row13_plan.specs.Made.{planIn}
+use Rattle.section_items.specs.Items.{Item, itemsOf, counted, picked, memoryNumbers, groupNumbers, ruleNumbers}
 use Rattle.settled.specs.Settled.{settledOf}
-use Rattle.row11_sizes.specs.Steps.{walk, begin}
+use Rattle.size_walk.specs.Steps.{walk, begin}
 use Rattle.plan_of.specs.Row11.{Measured}
 use Rattle.plan_of.proofs.Row11.{sized}
 use Rattle.plan_of.specs.Row13.{Made}

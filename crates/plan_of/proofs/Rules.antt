@@ -19,7 +19,7 @@ use Rattle.language.specs.declared.Unary.the-variants.{Invert, Plus, Not, All, 
 use Rattle.language.specs.declared.Binary.the-variants.{Multiply, Divide, Remainder, Add, Subtract, Left, Right, Less, AtMost, Greater, AtLeast, Equal, Unequal, And, NotAnd, Xor, NotXor, Or, NotOr, Both, Either}
 use Rattle.plan.specs.Items.{encode, decode, decodeAll, unaryItem, binaryItem}
 use Rattle.plan.specs.Layout.{codeAt}
-use Rattle.machine.specs.Machine.{state, execAll, execRules, writeTo}
+use Rattle.item_steps.specs.Machine.{state, execAll, execRules, writeTo}
 use Rattle.placed.specs.Placed.{Every}
 use Rattle.plan_of.specs.PlanOf.{Slot, extents, widthOf, memoryAt, code, assignmentCode, letsFrom, valsCode, bodyCode, ruleCode}
 use Rattle.plan_of.specs.Formed.{whole, FormedAt, nest}
@@ -223,15 +223,23 @@ module _ (s : Setting) (g : Given) where
           kept = record { long = q .kept .long ∙ r .long; same = λ k h. absurd (omega arith) };
         }
 
+    -- a statement's items before those of the ones after it
+    scoped-both : (is js es : List Item) (xs ys : List (Change (List ℕ))) (us ws : List (Change ℕ)) (ls os : List ℕ) (qs : List (Change ℕ))
+        → Does (is ++ js) 0 xs us ls os qs → ((new : List ℕ) → Kept-below 0 new ls → Does es 0 ys ws new (puts s xs os) (backwards us qs)) → Does (is ++ (js ++ es)) 0 (xs ++ ys) (us ++ ws) ls os qs
+    scoped-both is js es xs ys us ws ls os qs d f = rw (← (append-assoc is js es)) (does-both {is = is ++ js} {js = es} {xs = xs} {ys = ys} {us = us} {ws = ws} {ls = ls} {os = os} {qs = qs} d f)
+
     body-does : (k : ℕ) (l : List Statement) (ls os : List ℕ) (qs : List (Change ℕ)) → Every (FineStatement s ms) l → k + valsIn l ≤ 16 → length ls ≡ 48
         → Does (bodyCode s k l) 0 (each (inStatement s g (assignsOf s g)) l) (each (inStatement s g (writesOf s g)) l) ls os qs
     unfolding bodyCode each inStatement valsIn extents
     body-does k [] ls os qs f n l = does-nothing 0 ls os qs
     body-does k (alone x ∷ l) ls os qs f n h =
-        does-both (weaker (assignment-does [] [] x ls os qs (f .0) h tt)) (λ new c. body-does k l new _ _ (f .1) n (c .long ∙ h))
+        does-both {is = assignmentCode s [] x} {js = bodyCode s k l} {xs = assignsOf s g [] x} {ys = each (inStatement s g (assignsOf s g)) l} {us = writesOf s g [] x} {ws = each (inStatement s g (writesOf s g)) l} {ls = ls} {os = os} {qs = qs}
+        (weaker (assignment-does [] [] x ls os qs (f .0) h tt)) (λ new c. body-does k l new (puts s (assignsOf s g [] x) os) (backwards (writesOf s g [] x) qs) (f .1) n (c .long ∙ h))
     body-does k (scoped vs xs ∷ l) ls os qs f n h =
-        rw (← (append-assoc (valsCode s k [] vs) (each (assignmentCode s (letsFrom s k [] vs)) xs) (bodyCode s (k + length vs) l)))
-        (does-both (scoped-does k vs xs ls os qs (f .0) (omega arith) h) (λ new c. body-does (k + length vs) l new _ _ (f .1) (omega arith) (c .long ∙ h)))
+        let b = letsOf s g [] vs in
+        scoped-both (valsCode s k [] vs) (each (assignmentCode s (letsFrom s k [] vs)) xs) (bodyCode s (k + length vs) l) (each (assignsOf s g b) xs) (each (inStatement s g (assignsOf s g)) l) (each (writesOf s g b) xs) (each (inStatement s g (writesOf s g)) l) ls os qs
+        (scoped-does k vs xs ls os qs (f .0) (omega arith) h)
+        (λ new c. body-does (k + length vs) l new (puts s (each (assignsOf s g b) xs) os) (backwards (each (writesOf s g b) xs) qs) (f .1) (omega arith) (c .long ∙ h))
 
 -- ## Numbers and items
 

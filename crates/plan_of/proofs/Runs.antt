@@ -16,7 +16,7 @@ use Rattle.language.specs.Sizes.{Setting, Extent, wide, Let, letNamed, amountOf
 use Rattle.language.specs.Meaning.{Bits, Given, Change, readValue, bitsIn, cellValue}
 use Rattle.plan.specs.declared.Item.{Item}
 use Rattle.plan.specs.declared.Item.the-variants.{Port, Let as Kept, Copies, Arm, Keep, Choice}
-use Rattle.machine.specs.Machine.{State, state, exec1, execAll, cellOf, pick}
+use Rattle.item_steps.specs.Machine.{State, state, exec1, execAll, cellOf, pick}
 use Rattle.plan_of.specs.PlanOf.{Slot, extents, wideOf, constant, readItem, code}
 use Rattle.plan_of.specs.Formed.{Kind, whole, parts, arms, IsArms, FormedAt, nest}
 use Rattle.plan_of.proofs.Extents.{Paired, Found, paired-map, found, IsWide, width-of, one-wide, two-wide, SameWidth, width-agrees, choice-wide}

@@ -13,7 +13,7 @@ use Rattle.language.specs.Parts.{each}
 use Rattle.language.specs.Sizes.{Setting, Let, letNamed}
 use Rattle.placed.specs.Placed.{Every}
 use Rattle.placed.proofs.Every.{append-every}
-use Rattle.row13_plan.specs.Made.{Item, itemsOf}
+use Rattle.section_items.specs.Items.{Item, itemsOf}
 use Rattle.settled.specs.Form.{six}
 use Rattle.settled.specs.Settled.{amount, settledBreadth, settledAmount, settledCell, settledPort, settledRead, settled, settledAssignment, settledKept, settledVals, settledBody}
 

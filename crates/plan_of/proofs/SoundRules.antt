@@ -320,6 +320,14 @@ module _ (s : Setting) (present taken : ℕ) (ms : List (List ℕ)) where
           unkept = unkept-kept (q .kept) (r .unkept);
         }
 
+    -- a statement's items before those of the ones after it
+    body-both : (is js : List Item) (m : ℕ) (ls : List ℕ) (l r : List Name) (d : Ends is 0 (maskAfter s m l) m ls) → Ends js 0 (maskAfter s (maskAfter s m l) r) (maskAfter s m l) (d .after) → Ends (is ++ js) 0 (maskAfter s m (l ++ r)) m ls
+    body-both is js m ls l r d e = rw (mask-append s m l r) (ends-both {is = is} {js = js} {n = 0} {j = maskAfter s m l} {k = maskAfter s (maskAfter s m l) r} {m = m} {ls = ls} d e)
+
+    body-scoped : (is js es : List Item) (m : ℕ) (ls : List ℕ) (l r : List Name) (d : Ends (is ++ js) 0 (maskAfter s m l) m ls) → Ends es 0 (maskAfter s (maskAfter s m l) r) (maskAfter s m l) (d .after)
+        → Ends (is ++ (js ++ es)) 0 (maskAfter s m (l ++ r)) m ls
+    body-scoped is js es m ls l r d e = rw (← (append-assoc is js es)) (body-both (is ++ js) es m ls l r d e)
+
     pub body-ends : (m k : ℕ) (l : List Statement) (ls : List ℕ) → Every (FineStatement s ms) l → Every MoreStatement l → Assignable m (each outputsOf l) → k + valsIn l ≤ 16 → length ls ≡ 48 → Unkept k ls
         → Ends (bodyCode s k l) 0 (maskAfter s m (each outputsOf l)) m ls
     unfolding bodyCode each outputsOf valsIn maskAfter extents calledOf
@@ -327,10 +335,9 @@ module _ (s : Setting) (present taken : ℕ) (ms : List (List ℕ)) where
     body-ends m k (alone y ∷ l) ls f x a n h g =
         let q = assignable-append m (outputOf y) (each outputsOf l) a in
         let d = assignment-ends m [] y ls (f .0) (x .0) (q .0) h tt in
-        rw (mask-append s m (outputOf y) (each outputsOf l))
-        (ends-both (ends-weaker d) (body-ends _ k l (d .after) (f .1) (x .1) (q .1) n (d .kept .long ∙ h) (unkept-kept (d .kept) g)))
+        body-both (assignmentCode s [] y) (bodyCode s k l) m ls (outputOf y) (each outputsOf l) (ends-weaker d) (body-ends (maskAfter s m (outputOf y)) k l (d .after) (f .1) (x .1) (q .1) n (d .kept .long ∙ h) (unkept-kept (d .kept) g))
     body-ends m k (scoped vs xs ∷ l) ls f x a n h g =
         let q = assignable-append m (each outputOf xs) (each outputsOf l) a in
         let d = scoped-ends m k vs xs ls (f .0) (x .0) (q .0) (omega arith) h g in
-        rw (← (append-assoc (valsCode s k [] vs) (each (assignmentCode s (letsFrom s k [] vs)) xs) (bodyCode s (k + length vs) l)), mask-append s m (each outputOf xs) (each outputsOf l))
-        (ends-both (d .ends) (body-ends _ (k + length vs) l (d .ends .after) (f .1) (x .1) (q .1) (omega arith) (d .ends .kept .long ∙ h) (d .unkept)))
+        body-scoped (valsCode s k [] vs) (each (assignmentCode s (letsFrom s k [] vs)) xs) (bodyCode s (k + length vs) l) m ls (each outputOf xs) (each outputsOf l) (d .ends)
+        (body-ends (maskAfter s m (each outputOf xs)) (k + length vs) l (d .ends .after) (f .1) (x .1) (q .1) (omega arith) (d .ends .kept .long ∙ h) (d .unkept))

@@ -3,8 +3,8 @@ use mathlib.Core.Path.{_≡_, refl, sym, ap, _∙_}
 use mathlib.Core.List.{List, [], _∷_, _++_, append-assoc, append-nil}
 use Prim.Native.Nat.{ℕ}
 use Rattle.settled.specs.Form.{six}
-use Rattle.row11_sizes.specs.Effects.{soonerOf}
-use Rattle.row11_sizes.specs.Steps.{State, stepOf, walk}
+use Rattle.size_walk.specs.Effects.{soonerOf}
+use Rattle.size_walk.specs.Steps.{State, stepOf, walk}
 use Rattle.plan_of.proofs.Firsts.{told}
 
 pub record Goes (st : State) (a : List ℕ) (st' : State) : Type 0 where

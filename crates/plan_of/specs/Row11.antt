@@ -12,7 +12,7 @@ use Rattle.words.specs.Found.{placeTold}
 use Rattle.plan_of.specs.PlanOf.{ruleCode}
 use Rattle.plan_of.specs.Accepted.{Grammatical}
 use Rattle.settled.specs.Settled.{settledOf}
-use Rattle.row11_sizes.specs.Steps.{walk, begin}
+use Rattle.size_walk.specs.Steps.{walk, begin}
 
 -- what comes before row 11: the grammar, the limits of row 7, the widths of row 10
 pub record Measured (ws : List Word) (s : Setting) : Type 0 where

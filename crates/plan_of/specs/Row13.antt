@@ -3,8 +3,9 @@ use mathlib.Core.Path.{_≡_}
 use Rattle.language.specs.Sizes.{Setting}
 use Rattle.plan_of.specs.PlanOf.{planOf}
 use Rattle.settled.specs.Settled.{settledOf}
-use Rattle.row11_sizes.specs.Steps.{walk, begin}
-use Rattle.row13_plan.specs.Made.{itemsOf, planIn}
+use Rattle.size_walk.specs.Steps.{walk, begin}
+use Rattle.row13_plan.specs.Made.{planIn}
+use Rattle.section_items.specs.Items.{itemsOf}
 
 -- it is the actor's plan
 abbrev pub Made : Setting → Type 0

@@ -13,7 +13,7 @@ use Rattle.language.specs.Sizes.{Setting}
 use Rattle.language.specs.Meaning.{Outcome, Turn, cellWidths, cycle, run}
 use Rattle.plan.specs.Layout.{portCount, portAt, memoryWidthAt}
 use Rattle.plan.specs.Sound.{soundOf}
-use Rattle.cycle.specs.Cycle.{cycleOf}
+use Rattle.turn.specs.Cycle.{cycleOf}
 use Rattle.cycle.specs.Run.{result, runOf, cyclesOf, turnsIn, leftBy}
 use Rattle.placed.specs.Placed.{Every}
 use Rattle.plan_of.specs.PlanOf.{planOf}

@@ -13,7 +13,7 @@ use lib.Pow.{pow-pos}
 use native.Mathlib.Decide.{decLt}
 use borrow.Author.Tests.{leb-true, eqb-true, ne-eqb}
 use Rattle.language.specs.Values.{bitOf, numberOf}
-use Rattle.value.proofs.Digits.{bit-lt, bit-low, by-bits, and-bit}
+use Rattle.bits.proofs.Digits.{bit-lt, bit-low, by-bits, and-bit}
 use Rattle.plan.specs.Layout.{form, portCount, memoryCount, groupCount, groupAt, rulesBefore, ruleCount, presentAt, absentAt, lengthAt, codeBefore, codeFrom, codeCount}
 use Rattle.plan.specs.Sound.{allUpTo, apart, portOk, memoryFits, groupOk, ruleOk, sectionsOk}
 use Rattle.plan_sections.specs.Parts.{portsPart, memoriesPart, groupsPart, rulesPart}

@@ -11,6 +11,7 @@ ghost use Rattle.plan.specs.Layout.{form, portCount, memoryCount, cellsBefore, 
 ghost use Rattle.plan.specs.Sound.{portOk, memoryFits, groupOk, ruleOk, allUpTo, sectionsOk};
 ghost use Rattle.plan.specs.Sound.{apart as Sound·apart};
 ghost use Rattle.plan_sections.specs.Parts.{portsPart, memoriesPart, groupsPart, rulesPart};
+use bits::low;
 use language::Plan;
 use plan::OUTPUT;
 use plan::absent_at;
@@ -32,7 +33,6 @@ use plan::present_at;
 use plan::rule_count;
 use plan::rules_before;
 use plan::within;
-use value::low;
 
 fn port_ok(plan: &[u32], i: u32) -> bool
     ensures { λ r. ⌜ r ≡ portOk (now (plan .entry)) i ⌝ }

@@ -12,7 +12,8 @@ use borrow.Author.Tests.{ne-eqb, ltb-true, ltb-false}
 use Rattle.language.specs.Words.{Word}
 use Rattle.language.specs.Reader.{is, isNum}
 use Rattle.language.specs.Parser.{isWord, ahead, armEnds}
-use Rattle.words.specs.Table.{spelledWords, wordOf, wordAt}
+use Rattle.signs.specs.Kinds.{spelledWords}
+use Rattle.words.specs.Table.{wordOf, wordAt}
 use Rattle.readers.specs.Marks.{count, kindAt, placeAt, longAt, valueAt, Marked}
 use Rattle.readers.proofs.Spells.{Spells, word, past, kind-is, kind-past, is-as, num-miss, is-miss, one-or}
 use Rattle.readers.proofs.Fixed.{s-default, s-arrow, s-bar}

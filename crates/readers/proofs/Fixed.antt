@@ -1,7 +1,7 @@
 -- The kind of each fixed word that a reader tests. Assumes nothing.
 use mathlib.Core.Path.{refl}
 use native.Mathlib.Omega.{arith}
-use Rattle.words.specs.Table.{spelledWords}
+use Rattle.signs.specs.Kinds.{spelledWords}
 use Rattle.readers.specs.Marks.{fixedOf}
 use Rattle.readers.proofs.Spells.{Spells, spells, check, agree}
 

@@ -13,7 +13,8 @@ use borrow.Author.Tests.{eq-eqb, ne-eqb, eqb-true, eqb-false, lt-ltb, le-ltb, lt
 use Rattle.language.specs.Text.{Name, same}
 use Rattle.language.specs.Words.{Word, name, bytes}
 use Rattle.language.specs.Reader.{Res, bad, on, is, isNum, isName, isDigits, isThe, expect, until}
-use Rattle.words.specs.Table.{spelledWords, wordOf, wordAt}
+use Rattle.signs.specs.Kinds.{spelledWords}
+use Rattle.words.specs.Table.{wordOf, wordAt}
 use Rattle.readers.specs.Marks.{count, kindAt, placeAt, longAt, valueAt, nameAt, spelledAt, Marked, fixedOf, theType, isType, theP, isP}
 use Rattle.readers.specs.Meets.{On, Went, Stopped, Moved, Agrees, fault, Closes, closes, missing, faulty}
 use Rattle.readers.proofs.Laws.{moved-at, moved-bad, bind-at, bind-bad}

@@ -13,7 +13,8 @@ use Rattle.language.specs.Words.{Word, Numeral, bytes}
 use Rattle.language.specs.Grammar.{Operator, operators, operatorIn, prefixes, prefixIn}
 use Rattle.language.specs.declared.Unary.{Unary}
 use Rattle.tape.specs.Tape.{unaryNumber, binaryNumber}
-use Rattle.words.specs.Table.{spelledWords, wordAt}
+use Rattle.signs.specs.Kinds.{spelledWords}
+use Rattle.words.specs.Table.{wordAt}
 
 -- the number of words stands behind them: four numbers a word, and at most a word for each byte
 abbrev pub countAt : ℕ

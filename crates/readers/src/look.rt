@@ -6,11 +6,12 @@ use crate::IS_TYPE;
 use crate::LOOSEST;
 use crate::Out;
 use crate::Table;
+use signs::kinds;
 use tape::MINUS;
 use tape::PLUS;
-use words::kinds;
 ghost use mathlib.Core.Path.{_≡_};
 ghost use Prim.Native.Nat.{_+_, _<_};
+ghost use Rattle.signs.specs.Kinds.{kindsEnd};
 ghost use Rattle.readers.specs.Marks.{placeAt, longAt, valueAt, isMark, unaryOf, binaryOf, isMemory, theP, theType};
 ghost use Rattle.tape.specs.Tape.{one-if};
 ghost use Rattle.readers.specs.Meets.{Inside, Sum, Within, Kind, Level, WordStands, Closes, Ends};
@@ -143,7 +144,7 @@ pub fn level(k: u32) -> u32
 const MARKS: [u8; KINDS] = *b"00000000000000000000000000000000011100000000000000111111000000000";
 
 fn mark(i: usize) -> u32
-    requires { ⌜ i < 65 ⌝ }
+    requires { ⌜ i < kindsEnd ⌝ }
     ensures { λ r. ⌜ r ≡ one-if (isMark i) ⌝ }
 {
     (MARKS[i] - b'0') as u32

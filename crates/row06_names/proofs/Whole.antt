@@ -17,10 +17,9 @@ use Rattle.tape.specs.Walk.{namesOn, after}
 use Rattle.row06_names.specs.Walk.{Seen, seenAt, faultsAt}
 use Rattle.tape.proofs.Does.{Ran, ran, walked}
 use Rattle.row06_names.proofs.Seens.{next, seen-more}
-use Rattle.placed.proofs.Same.{pushed}
+use Rattle.placed.proofs.Same.{pushed, or-false, among-append, among-pushed, among-inputs, among-outputs}
 use Rattle.row06_names.proofs.Parts.{actorF}
 use Rattle.row06_names.proofs.Actors.{final, actor-does}
-use Rattle.placed.proofs.Same.{or-false, among-append, among-pushed, among-inputs, among-outputs}
 use Rattle.row06_names.proofs.Faults.{Agree, actor-same}
 
 or-swap : (x y : Bool) → (x || y) ≡ (y || x)

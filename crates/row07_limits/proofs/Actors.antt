@@ -18,7 +18,8 @@ use Rattle.tape.specs.Tape.{item, LET, END, RULE, RULED, OR, GROUPED, flatD, is
 use Rattle.placed.proofs.Every.{each-append}
 use Rattle.placed.proofs.Same.{Same, is, equal, then, split-each, each-each}
 use Rattle.row07_limits.specs.declared.Room.{Room}
-use Rattle.row07_limits.specs.Walk.{Triple, heldIn, inType, lastLimit, otherLimit, sizeIn, sizePlaceIn, fullFor, badSize, leftOf, againOf, nextRoom, itemFaults}
+use Rattle.part_lengths.specs.Parts.{Triple, heldIn}
+use Rattle.row07_limits.specs.Walk.{inType, lastLimit, otherLimit, sizeIn, sizePlaceIn, fullFor, badSize, leftOf, againOf, nextRoom, itemFaults}
 use Rattle.row07_limits.proofs.Sums.{nth, _⊕_, nil, same-sum}
 use Rattle.row07_limits.proofs.Wholes.{it, ontoT, onto, type-whole, expr-whole}
 use Rattle.row07_limits.proofs.Runs.{Does, told, none, both, single, typeF, wholeF, thingF, things, held-last, held-both, type-does, expr-does}

@@ -17,7 +17,8 @@ use Rattle.tape.specs.Tape.{item, SIZE, ACTOR, SIGNED, DECLARED, MEMORY, isType
 use Rattle.placed.proofs.Every.{each-append}
 use Rattle.placed.proofs.Same.{is, then}
 use Rattle.row07_limits.specs.declared.Room.{Room}
-use Rattle.row07_limits.specs.Walk.{Triple, heldIn, inType, lastLimit, otherLimit, sizeIn, sizePlaceIn, fullFor, badSize, leftOf, againOf, allRoom, nextRoom, itemFaults}
+use Rattle.part_lengths.specs.Parts.{Triple, heldIn}
+use Rattle.row07_limits.specs.Walk.{inType, lastLimit, otherLimit, sizeIn, sizePlaceIn, fullFor, badSize, leftOf, againOf, allRoom, nextRoom, itemFaults}
 use Rattle.row07_limits.proofs.Sums.{nth, _⊕_, nil, same-sum}
 use Rattle.row07_limits.proofs.Wholes.{it, type-whole, size-whole}
 use Rattle.row07_limits.proofs.Runs.{Does, none, both, single, typeF, thingF, things, held-last}

@@ -19,7 +19,8 @@ use Rattle.placed.proofs.Every.{each-append}
 use Rattle.placed.proofs.Same as Same
 use Rattle.placed.proofs.Same.{Same, is, equal, then, swap}
 use Rattle.row07_limits.specs.declared.Room.{Room}
-use Rattle.row07_limits.specs.Walk.{Triple, before, back, one, longIn, heldIn, lastLimit, otherLimit, sizeIn, fullFor, badSize, leftOf, againOf, allRoom, nextRoom, itemFaults, roomAt, faultsAt}
+use Rattle.part_lengths.specs.Parts.{Triple, before, back, one, longIn, heldIn}
+use Rattle.row07_limits.specs.Walk.{lastLimit, otherLimit, sizeIn, fullFor, badSize, leftOf, againOf, allRoom, nextRoom, itemFaults, roomAt, faultsAt}
 use Rattle.row07_limits.proofs.Sums.{nth, _⊕_, nil, same-sum}
 use Rattle.row07_limits.proofs.Wholes.{it, ontoT, ontoB, ontoA, onto, Whole, type-whole, whole-words, whole-start, whole-rest}
 

@@ -8,7 +8,7 @@ use native.Mathlib.Omega.{arith}
 use lib.Dec.{eqb}
 use lib.ListN.{getD}
 use borrow.Author.Tests.{eqb-true}
-use Rattle.words.proofs.Spelled.{both-left, both-right}
+use Rattle.spelling.proofs.Laws.{both-left, both-right}
 use Rattle.placed.specs.Members.{Member}
 use Rattle.placed.proofs.Members.{member-none, member-left, member-right, member-append}
 use Rattle.placed.proofs.Same.{Same}

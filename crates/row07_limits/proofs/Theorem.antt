@@ -17,7 +17,8 @@ use Rattle.language.specs.Counts.{typeWords, exprWords, wordAfter, tooMany, siz
 use Rattle.language.specs.Tree.{Ty, Expr, Port, Memory, Statement, Rule, Group, Actor, memoryNames}
 use Rattle.placed.proofs.Earliest.{earliest-same}
 use Rattle.words.specs.Found.{placeTold, foundOf, tableAfter}
-use Rattle.words.specs.Table.{numbersOf, tableOf}
+use Rattle.signs.specs.Kinds.{numbersOf}
+use Rattle.words.specs.Table.{tableOf}
 use Rattle.words.specs.declared.Place.{Place}
 use Rattle.words.specs.declared.Found.{Found}
 use Rattle.words.specs.declared.Found.the-variants.{Words}
@@ -28,7 +29,8 @@ use Rattle.tape.specs.Row.{Tells}
 use Rattle.tape.proofs.Tapes.{fold, goes-whole}
 use Rattle.placed.proofs.Every.{each-append}
 use Rattle.placed.proofs.Same.{Same, is, equal, then, beside, split-each, each-as, each-each}
-use Rattle.row07_limits.specs.Walk.{placesIn, firstOf, afterIn, longIn, allRoom, faultsAt}
+use Rattle.part_lengths.specs.Parts.{placesIn, firstOf, afterIn, longIn}
+use Rattle.row07_limits.specs.Walk.{allRoom, faultsAt}
 use Rattle.row07_limits.proofs.Sums.{nth, _⊕_, nil, same-sum}
 use Rattle.row07_limits.proofs.Runs.{Ran, ran, meet, walked, typeF, wholeF, numberF, thingF, things}
 use Rattle.row07_limits.proofs.Actors.{plain-start, inStatement, statementF, bodyF, valsF, ruleNames, allRules, lateGroups}

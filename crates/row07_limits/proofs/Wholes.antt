@@ -12,8 +12,8 @@ use Rattle.language.specs.Words.{bytes}
 use Rattle.language.specs.Parts.{typeStart, breadthStart, start}
 use Rattle.language.specs.Counts.{typeWords, breadthWords, amountWords, exprWords}
 use Rattle.tape.specs.Tape.{NUMBER, ENVIRONMENT, PORT, PLUS, MINUS, LOG, CEIL, FLOOR, MOST, ENTRY, WITHIN, BITS, TYPED, GIVEN, VALUE, PLAIN, COPIES, READ, CELL, BIT, RANGE, INSIDE, JOINED, BESIDE, UNARY, BINARY, CHOICE, EITHER, SELECT, SELECTED, ARM, DEFAULT, SIZE, unaryNumber, binaryNumber}
-use Rattle.row07_limits.specs.declared.Part.{Part}
-use Rattle.row07_limits.specs.Walk.{Triple, holdsTable, ownTable, leadsTable, holdsOf, ownOf, leadsOf, leadIn, overOf, one, back, rest}
+use Rattle.part_lengths.specs.declared.Part.{Part}
+use Rattle.part_lengths.specs.Parts.{Triple, holdsTable, ownTable, leadsTable, holdsOf, ownOf, leadsOf, leadIn, overOf, one, back, rest}
 
 -- ---- the items of a part, before others
 

@@ -1,7 +1,7 @@
 // One item of the tape: what it takes of the room that is left, and its faults.
 use crate::Room;
-use crate::parts::both;
-use crate::parts::held;
+use part_lengths::both;
+use part_lengths::held;
 use tape::ASSIGN;
 use tape::BIT;
 use tape::COPIES;
@@ -24,7 +24,8 @@ ghost use Rattle.language.specs.Text.{earliest};
 ghost use Rattle.language.specs.Names.{when};
 ghost use Rattle.words.specs.Found.{placeTold};
 ghost use Rattle.tape.specs.Walk.{opAt, placeAt, valueAt};
-ghost use Rattle.row07_limits.specs.Walk.{leftOf, againOf, before, placesIn, sizeIn, sizePlaceIn, fullFor, badSize, inType, lastLimit, otherLimit, nextRoom, itemFaults};
+ghost use Rattle.part_lengths.specs.Parts.{before, placesIn};
+ghost use Rattle.row07_limits.specs.Walk.{leftOf, againOf, sizeIn, sizePlaceIn, fullFor, badSize, inType, lastLimit, otherLimit, nextRoom, itemFaults};
 
 // The operations of the items that have a limit, or hold what has one.
 const IN_TYPE: u32 = language::Type::WORDS;
@@ -176,7 +177,8 @@ fn at(faulty: bool, place: u32) -> Place
 // The earliest fault of item i.
 pub fn item_fault(table: &[u32], many: usize, tape: &[u32], room: Room, i: usize) -> Place
     requires { ⌜ (4 * many ≤ length (now table)) × (3 * i + 2 < length (now tape)) ⌝ }
-    ensures { λ r. ⌜ r ≡ placeTold (earliest (itemFaults (placesIn (now (table .entry)) 0 many) room (before (now (tape .entry)) i) (opAt (now (tape .entry)) i) (placeAt (now (tape .entry)) i) (valueAt (now (tape .entry)) i))) ⌝ }
+    ensures { λ r. ⌜ r ≡ placeTold (earliest (itemFaults (placesIn (now (table .entry)) 0 many) room
+        (before (now (tape .entry)) i) (opAt (now (tape .entry)) i) (placeAt (now (tape .entry)) i) (valueAt (now (tape .entry)) i))) ⌝ }
 {
     let op = tape[3 * i];
     let place = tape[3 * i + 1];

@@ -2,12 +2,11 @@
 // What comes in: the text, and the tape that holds its actor. What goes out: the earliest place of a port, memory, group,
 // rule or `val` too many, of a bad size or number of copies, or of the first word too many of a type or an expression.
 mod items;
-mod parts;
 
 use items::item_fault;
 use items::next;
 use items::size;
-use parts::both;
+use part_lengths::both;
 use words::Place;
 ghost use mathlib.Core.Path.{_≡_};
 ghost use mathlib.Core.List.{List};
@@ -20,7 +19,8 @@ ghost use Rattle.language.specs.Tree.{Actor};
 ghost use Rattle.language.specs.Counts.{limitFaults};
 ghost use Rattle.words.specs.Found.{placeTold};
 ghost use Rattle.tape.specs.Row.{Tells};
-ghost use Rattle.row07_limits.specs.Walk.{placesIn, faultsAt};
+ghost use Rattle.part_lengths.specs.Parts.{placesIn};
+ghost use Rattle.row07_limits.specs.Walk.{faultsAt};
 
 // Four numbers for each word, of which a text has at most one to a byte.
 const TABLE: usize = 4 * language::Actor::BYTES as usize;
@@ -33,22 +33,6 @@ struct Room {
     groups: u32,
     rules: u32,
     vals: u32,
-}
-
-// A type or an expression, gone back over so far: how many parts are still wanted, the words, and the place of the
-// first one once that is found.
-struct Part {
-    wanted: usize,
-    words: usize,
-    start: u32,
-    found: bool,
-}
-
-// A whole type or expression: the item that it starts at, its words, and the place of the first one.
-struct Whole {
-    at: usize,
-    words: usize,
-    start: u32,
 }
 
 // The earliest place of a fault among so many items, by the table of so many words.

@@ -12,7 +12,7 @@ use Rattle.language.specs.Text.{same, index, among}
 use Rattle.language.specs.Tree.{spelledOf}
 use Rattle.language.specs.Bindings.{Binding}
 use Rattle.language.specs.Widths.{boundNames, valueIn}
-use Rattle.bindings.specs.Table.{lineIn}
+use Rattle.binding_names.specs.Names.{lineIn}
 use Rattle.row09_bindings.specs.Lines.{nameOn, namesOn, linesOn}
 use Rattle.row09_bindings.proofs.Tables.{names-are}
 

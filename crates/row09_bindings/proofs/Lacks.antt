@@ -10,7 +10,7 @@ use Rattle.language.specs.Parts.{each}
 use Rattle.language.specs.Names.{when, missing}
 use Rattle.language.specs.Bindings.{Binding}
 use Rattle.language.specs.Widths.{boundNames}
-use Rattle.bindings.specs.Table.{lineIn}
+use Rattle.binding_names.specs.Names.{lineIn}
 use Rattle.words.specs.Found.{placeTold, earlierOf}
 use Rattle.words.specs.declared.Place.{Place}
 use Rattle.tape.proofs.Walks.{told-earlier}

@@ -13,7 +13,8 @@ use Rattle.language.specs.Parts.{each}
 use Rattle.language.specs.Tree.{spelledOf}
 use Rattle.language.specs.Bindings.{Binding, Bindings, Bound, bound, wrongAt, bindingsOf}
 use Rattle.language.specs.Widths.{boundNames}
-use Rattle.bindings.specs.Table.{cells, tableOf, lineIn, roomy, answerOf, tableAfter}
+use Rattle.bindings.specs.Table.{cells, tableOf, roomy, answerOf, tableAfter}
+use Rattle.binding_names.specs.Names.{lineIn}
 use Rattle.bindings.specs.declared.Answer.{Answer}
 use Rattle.bindings.specs.declared.Answer.the-variants.{Bound as IsBound, Wrong, NoRoom}
 use Rattle.placed.specs.Placed.{Every}

@@ -4,7 +4,8 @@ use mathlib.Core.List.{List, [], _∷_}
 use Prim.Native.Nat.{ℕ, zero, suc, _+_, _*_}
 use lib.ListN.{length, getD, take, drop}
 use Rattle.language.specs.Bindings.{Binding, Bindings, bindingsOf, bound}
-use Rattle.bindings.specs.Table.{tableOf, lineIn}
+use Rattle.bindings.specs.Table.{tableOf}
+use Rattle.binding_names.specs.Names.{lineIn}
 
 -- the name of line i; the names of n lines from one on; the lines
 abbrev pub nameOn : (btext table : List ℕ) → ℕ → List ℕ

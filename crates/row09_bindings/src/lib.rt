@@ -32,7 +32,7 @@ fn line_name<'a>(btext: &'a [u8], table: &[u32], i: usize) -> &'a [u8]
     requires { ⌜ 3 * i + 2 < length (now table) ⌝ }
     ensures { λ r. ⌜ now r ≡ nameOn (now (btext .entry)) (now (table .entry)) i ⌝ }
 {
-    words::part(btext, wide(table[3 * i]), wide(table[3 * i + 1]))
+    spans::part(btext, wide(table[3 * i]), wide(table[3 * i + 1]))
 }
 
 // The first line, from one on and before another, that has the name at a place of the actor's text; `to` where none has.
@@ -71,7 +71,8 @@ fn strange(
     rest: Place,
 ) -> Place
     requires { ⌜ (3 * many ≤ length (now tape)) × (from ≤ to) × (3 * to ≤ length (now table)) ⌝ }
-    ensures { λ r. ⌜ ((ps : List ℕ) → rest ≡ placeTold (earliest ps) → r ≡ placeTold (earliest (missing (between (now (text .entry)) (now (tape .entry)) class 0 many) (boundNames (linesOn (now (btext .entry)) (now (table .entry)) from (to - from))) ++ ps))) ⌝ }
+    ensures { λ r. ⌜ ((ps : List ℕ) → rest ≡ placeTold (earliest ps) → r
+        ≡ placeTold (earliest (missing (between (now (text .entry)) (now (tape .entry)) class 0 many) (boundNames (linesOn (now (btext .entry)) (now (table .entry)) from (to - from))) ++ ps))) ⌝ }
 {
     let mut first = rest;
     let mut i = to;
@@ -96,7 +97,8 @@ pub fn strangers(
 ) -> Place
     requires { ⌜ n ≤ length (now tape) ⌝ }
     requires { ⌜ 3 * (k + m) ≤ length (now table) ⌝ }
-    ensures { λ r. ⌜ ((ws : List Word) (a : Actor) (b : Bindings) → Tells (now (text .entry)) (now (tape .entry)) n ws a → Binds (now (btext .entry)) (now (table .entry)) k m b → r ≡ placeTold (earliest (strangersOf a b))) ⌝ }
+    ensures { λ r. ⌜ ((ws : List Word) (a : Actor) (b : Bindings) → Tells (now (text .entry)) (now (tape .entry)) n ws a
+        → Binds (now (btext .entry)) (now (table .entry)) k m b → r ≡ placeTold (earliest (strangersOf a b))) ⌝ }
 {
     let many = n / 3;
     let values = strange(
@@ -193,7 +195,8 @@ pub fn unsettled(
 ) -> Place
     requires { ⌜ n ≤ length (now tape) ⌝ }
     requires { ⌜ 3 * (k + m) ≤ length (now table) ⌝ }
-    ensures { λ r. ⌜ ((ws : List Word) (a : Actor) (b : Bindings) → Tells (now (text .entry)) (now (tape .entry)) n ws a → Binds (now (btext .entry)) (now (table .entry)) k m b → r ≡ placeTold (earliest (unsettledOf a b))) ⌝ }
+    ensures { λ r. ⌜ ((ws : List Word) (a : Actor) (b : Bindings) → Tells (now (text .entry)) (now (tape .entry)) n ws a
+        → Binds (now (btext .entry)) (now (table .entry)) k m b → r ≡ placeTold (earliest (unsettledOf a b))) ⌝ }
 {
     walk(text, tape, n / 3, btext, table, k, m)
 }

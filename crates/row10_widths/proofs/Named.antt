@@ -10,14 +10,14 @@ use lib.ListN.{length, getD, take, drop, length-append}
 use Rattle.language.specs.Text.{Name, same, index, among}
 use Rattle.language.specs.Tree.{Ty, number, environment, port, plus, minus, log, ceil, floor, most, entry, within, Declared, untyped, Port, Size, one, cells, Memory, Group, Actor, spelledOf}
 use Rattle.language.specs.Widths.{valueIn}
-use Rattle.bindings.specs.Table.{lineIn}
+use Rattle.binding_names.specs.Names.{lineIn}
 use Rattle.placed.specs.Placed.{nameFrom, Spelled, Every}
 use Rattle.tape.specs.Tape.{item, flatT, flatD, flats, flatPort, flatSize, flatMemory, flatSigned, flatGroup, flatActor, PLUS, MINUS, LOG, CEIL, FLOOR, MOST, ENTRY, WITHIN, DECLARED, MEMORY}
 use Rattle.tape.specs.Walk.{placeAt}
 use Rattle.tape.proofs.Tapes.{item-at}
 use Rattle.row09_bindings.specs.Lines.{nameOn, namesOn, linesOn}
-use Rattle.row10_widths.specs.Codes.{roleOf, isOver, tally, countedOf, countsOver, signedNames, valueOr}
-use Rattle.row10_widths.specs.declared.codes.Counts.{Counts}
+use Rattle.type_nodes.specs.Codes.{roleOf, isOver, tally, countedOf, countsOver, signedNames, valueOr}
+use Rattle.type_nodes.specs.declared.Counts.{Counts}
 
 -- ---- the signature
 

@@ -9,8 +9,8 @@ use Rattle.language.specs.Tree.{Ty, number, environment, port, plus, minus, log
 use Rattle.placed.specs.Placed.{PlacedType}
 use Rattle.tape.specs.Tape.{item, flatT, NUMBER, ENVIRONMENT, PORT, PLUS, MINUS, LOG, CEIL, FLOOR, MOST, ENTRY, WITHIN}
 use Rattle.type_value.specs.Terms.{code, resolve, Fine}
-use Rattle.row10_widths.specs.Codes.{roleOf, Env, portOf, valueOf, numberNode, nodeOf, capped, grownOf, stopsAt, leftOf, soughtIn}
-use Rattle.row10_widths.specs.declared.codes.Goal.{Goal}
+use Rattle.type_nodes.specs.Codes.{roleOf, Env, portOf, valueOf, numberNode, nodeOf, capped, grownOf, stopsAt, leftOf, soughtIn}
+use Rattle.type_nodes.specs.declared.Goal.{Goal}
 
 cap-both : (n : ℕ) (l y : List ℕ) → take n (take n l ++ y) ≡ take n (l ++ y)
 cap-both zero l y = refl

@@ -9,10 +9,10 @@ use Rattle.language.specs.Tree.{Declared, untyped, Port, Size, one, cells, Memo
 use Rattle.language.specs.Widths.{declaredType}
 use Rattle.placed.specs.Placed.{nameFrom, Every, PlacedDeclared, PlacedPort, PlacedMemory, PlacedActor}
 use Rattle.tape.specs.Tape.{item, flatD, flats, flatPort, flatSize, flatMemory, flatSigned, flatGroup, flatActor, ACTOR, DECLARED, MEMORY}
-use Rattle.row10_widths.specs.Codes.{roleOf, Env, capped, grownOf, stopsAt, leftOf, keptOf, soughtIn}
-use Rattle.row10_widths.specs.declared.codes.Role.the-variants.{Declared as IsDeclared, Memory as IsMemory}
-use Rattle.row10_widths.specs.declared.codes.Goal.{Goal}
-use Rattle.row10_widths.specs.declared.codes.Goal.the-variants.{Port as PortAt, Memory as MemoryAt}
+use Rattle.type_nodes.specs.Codes.{roleOf, Env, capped, grownOf, stopsAt, leftOf, keptOf, soughtIn}
+use Rattle.type_nodes.specs.declared.Role.the-variants.{Declared as IsDeclared, Memory as IsMemory}
+use Rattle.type_nodes.specs.declared.Goal.{Goal}
+use Rattle.type_nodes.specs.declared.Goal.the-variants.{Port as PortAt, Memory as MemoryAt}
 use Rattle.row10_widths.proofs.Nodes.{nodesT, type-takes}
 
 unfoldable pub nodesD : Env → Declared → List ℕ

@@ -29,11 +29,11 @@ use Rattle.typing.proofs.Rules.{none-left, none-right}
 use Rattle.typing.proofs.Bridge.{as-many, found, not-found}
 use Rattle.typing.proofs.Accepted.{All, terms-right, coded}
 use Rattle.row09_bindings.specs.Lines.{namesOn}
-use Rattle.row10_widths.specs.Codes.{Env, env, portOf, valueOr, valueOf, numberNode, capped, soughtIn, someNodes, portNodes, wantNodes, signedNames, tally, countsOver, Slotted}
+use Rattle.type_nodes.specs.Codes.{Env, env, portOf, valueOr, valueOf, numberNode, capped, soughtIn, someNodes, portNodes, wantNodes, signedNames, tally, countsOver, Slotted}
 use Rattle.row10_widths.specs.Row.{Asked, Settles}
 use Rattle.row10_widths.specs.declared.Answer.the-variants.{Widths, Nothing}
-use Rattle.row10_widths.specs.declared.codes.Counts.{Counts}
-use Rattle.row10_widths.specs.declared.codes.Goal.the-variants.{Port as PortAt, Memory as MemoryAt}
+use Rattle.type_nodes.specs.declared.Counts.{Counts}
+use Rattle.type_nodes.specs.declared.Goal.the-variants.{Port as PortAt, Memory as MemoryAt}
 use Rattle.row10_widths.proofs.Nodes.{nodes-code, number-node}
 use Rattle.row10_widths.proofs.Sought.{nodesD, typeAt, port-found, memory-found}
 use Rattle.row10_widths.proofs.Named.{signed-fits, signed-names, actor-count, name-at, found-among, found-value}

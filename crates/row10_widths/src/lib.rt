@@ -1,12 +1,10 @@
 // Row 10 of document 01: the widths of an actor's ports and memories, by their types and the bindings.
 // What comes in: the actor's text and tape, the bindings' text and table, and cells for the widths. What goes out: how
 // many widths there are, the ports' in the order of the signature and then the memories', or that no widths satisfy every type.
-mod codes;
-
-use codes::declared;
-use codes::want_code;
 use language::Plan;
 use language::Type;
+use type_codes::want_code;
+use type_nodes::declared;
 ghost use mathlib.Core.List.{List};
 ghost use Prim.Native.Nat.{_+_, _*_, _≤_};
 ghost use lib.ListN.{length};
@@ -42,7 +40,8 @@ pub fn solved(
 ) -> Answer
     requires { ⌜ (n ≤ length (now tape)) × (3 * (k + m) ≤ length (now table)) × (limits .ports + limits .memories ≤ length (now widths)) ⌝ }
     requires { ⌜ ((ws : List Word) × (a : Actor) × (b : Bindings) × Asked (now text) (now tape) n (now btext) (now table) k m ws a b) ⌝ }
-    ensures { λ r. ⌜ ((ws : List Word) (a : Actor) (b : Bindings) → Asked (now (text .entry)) (now (tape .entry)) n (now (btext .entry)) (now (table .entry)) k m ws a b → Settles a b r (now (widths .entry)) (now (widths .exit))) ⌝ }
+    ensures { λ r. ⌜ ((ws : List Word) (a : Actor) (b : Bindings) → Asked (now (text .entry)) (now (tape .entry)) n (now (btext .entry)) (now (table .entry)) k m ws a b
+        → Settles a b r (now (widths .entry)) (now (widths .exit))) ⌝ }
 {
     let mut code = [0u32; NODES];
     let mut starts = [0usize; WIDTHS];

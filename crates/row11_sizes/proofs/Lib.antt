@@ -1,3 +1,1 @@
-pub mod Tables
 pub mod Turns
-pub mod Widths

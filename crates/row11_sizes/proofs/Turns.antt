@@ -1,5 +1,5 @@
 -- The walk by index, and one turn of it: tables that hold a state hold the next one. Assumes nothing.
-use mathlib.Core.Path.{_≡_, refl, sym, ap, ap₂, _∙_}
+use mathlib.Core.Path.{_≡_, refl, sym, ap, ap₂, subst, _∙_}
 use mathlib.Core.Bool.{Bool, _&&_, _||_}
 use mathlib.Core.List.{List, [], _∷_, _++_}
 use Prim.Native.Nat.{ℕ, zero, suc, _+_, _-_, _*_, _≤_, _<_}
@@ -8,13 +8,17 @@ use lib.Dec.{eqb, ltb}
 use lib.ListN.{length, getD, take, drop, length-append, length-drop}
 use lib.Seq.{sets, drop-cons, getD-take, length-take-le}
 use Rattle.plan.specs.Waits.{top}
-use Rattle.row11_sizes.specs.declared.Effect.{Effect}
-use Rattle.row11_sizes.specs.declared.Far.{Far}
+use Rattle.size_walk.specs.declared.Effect.{Effect}
+use Rattle.size_walk.specs.declared.Far.{Far}
+use Rattle.size_walk.specs.declared.Seen.{Seen}
 use Rattle.settled.specs.Form.{BITS, TYPED, VAL, RULED}
-use Rattle.row11_sizes.specs.Effects.{soonerOf, effectOf}
-use Rattle.row11_sizes.specs.Steps.{State, seenOf, one-if, emitsOf, heldOf, aroundOf, pick, endedOf, room, stepOf, walk, begin, Holds}
-use Rattle.row11_sizes.specs.Bounds.{stepAt, upTo}
+use Rattle.size_walk.specs.Effects.{soonerOf, effectOf}
+use Rattle.size_walk.specs.Steps.{State, seenOf, one-if, emitsOf, heldOf, aroundOf, pick, endedOf, room, stepOf, onwardOf, walk, begin, Holds}
+use Rattle.size_walk.specs.Bounds.{effectAt, stepAt, upTo, Bounded}
+use Rattle.laws.specs.Tables.{Kept}
 use Rattle.laws.proofs.Tables.{stored}
+use Rattle.item_effects.proofs.Tables.{pick-within}
+use Rattle.words.specs.declared.Place.{Place}
 
 -- ---- by index
 
@@ -66,21 +70,16 @@ up-next t i = let e : i + 1 ≡ suc i = omega arith in rw e
 
 -- ---- one turn
 
--- what the parts of a step leave in the tables, over what an item does
-pub record Turned (widths starts slots code lengths : List ℕ) (far : Far) (e : Effect) (op p a : ℕ) (widths' starts' slots' code' lengths' : List ℕ) (r : Far) : Type 0 where
-  pub wide : top widths' (r .waits) ≡ one-if (e .leaves) (e .width) (drop (e .takes) (top widths (far .waits)))
-  pub begun : top starts' (r .waits) ≡ one-if (e .leaves) (e .start) (drop (e .takes) (top starts (far .waits)))
+-- what the parts of a step leave in the tables, over what an item does: so many wait, the code is so long, so many rules have ended
+pub record Turned (widths starts slots code lengths : List ℕ) (far : Far) (e : Effect) (op a : ℕ) (widths' starts' slots' code' lengths' : List ℕ) (waits out rules : ℕ) : Type 0 where
+  pub wide : top widths' waits ≡ one-if (e .leaves) (e .width) (drop (e .takes) (top widths (far .waits)))
+  pub begun : top starts' waits ≡ one-if (e .leaves) (e .start) (drop (e .takes) (top starts (far .waits)))
   pub kept : slots' ≡ heldOf (eqb op VAL || eqb op TYPED) a (e .emits) slots
   pub fits : far .out + length (emitsOf (e .emits)) ≤ length code
-  pub out : r .out ≡ far .out + length (emitsOf (e .emits))
+  pub long : out ≡ far .out + length (emitsOf (e .emits))
   pub coded : code' ≡ sets code (far .out) (emitsOf (e .emits))
-  pub rules : r .rules ≤ length lengths'
-  pub ended : take (r .rules) lengths' ≡ endedOf (eqb op RULED && ltb (far .rules) room) (r .out - far .rule) (take (far .rules) lengths)
-  pub first : r .first ≡ soonerOf (e .fault) (far .first)
-  pub breadth : r .breadth ≡ pick (eqb op BITS) a (far .breadth)
-  pub start : r .start ≡ pick (eqb op BITS) p (far .start)
-  pub cases : r .cases ≡ aroundOf op (far .cases)
-  pub rule : r .rule ≡ pick (eqb op RULED) (r .out) (far .rule)
+  pub few : rules ≤ length lengths'
+  pub ended : take rules lengths' ≡ endedOf (eqb op RULED && ltb (far .rules) room) (out - far .rule) (take (far .rules) lengths)
 
 -- `stepOf`, over what the item does
 unfoldable stepBy : State → Effect → (op p a : ℕ) → State
@@ -98,33 +97,69 @@ stepBy s e op p a =
       rule = pick (eqb op RULED) (length (s .code ++ emitsOf (e .emits))) (s .rule);
     }
 
-module _ (widths starts slots code lengths : List ℕ) (far : Far) (op p a : ℕ) (widths' starts' slots' code' lengths' : List ℕ) (r : Far) (s : State) (h : Holds widths starts slots code lengths far s) where
-  by-effect : (e : Effect) → Turned widths starts slots code lengths far e op p a widths' starts' slots' code' lengths' r → Holds widths' starts' slots' code' lengths' r (stepBy s e op p a)
-  unfolding stepBy
+module _ (widths starts slots code lengths : List ℕ) (far : Far) (op p a : ℕ) (widths' starts' slots' code' lengths' : List ℕ) (w o n : ℕ) (s : State) (h : Holds widths starts slots code lengths far s) where
+  by-effect : (e : Effect) → Turned widths starts slots code lengths far e op a widths' starts' slots' code' lengths' w o n
+      → Holds widths' starts' slots' code' lengths' (onwardOf op p a (e .fault) w o n far) (stepBy s e op p a)
+  unfolding stepBy onwardOf
   by-effect e t =
       record {
         wide = t .wide ∙ ap (λ (l : List ℕ). one-if (e .leaves) (e .width) (drop (e .takes) l)) (h .wide);
         begun = t .begun ∙ ap (λ (l : List ℕ). one-if (e .leaves) (e .start) (drop (e .takes) l)) (h .begun);
         kept = t .kept ∙ ap (heldOf (eqb op VAL || eqb op TYPED) a (e .emits)) (h .kept);
-        coded = ap₂ take (t .out) (t .coded) ∙ stored code (emitsOf (e .emits)) (far .out) (t .fits) ∙ ap (λ (l : List ℕ). l ++ emitsOf (e .emits)) (h .coded);
+        coded = ap₂ take (t .long) (t .coded) ∙ stored code (emitsOf (e .emits)) (far .out) (t .fits) ∙ ap (λ (l : List ℕ). l ++ emitsOf (e .emits)) (h .coded);
         long = long;
         ended = ended;
-        rules = sym (length-take-le (r .rules) lengths' (t .rules)) ∙ ap length ended;
-        first = t .first ∙ ap (soonerOf (e .fault)) (h .first);
-        breadth = t .breadth ∙ ap (pick (eqb op BITS) a) (h .breadth);
-        start = t .start ∙ ap (pick (eqb op BITS) p) (h .start);
-        cases = t .cases ∙ ap (aroundOf op) (h .cases);
-        rule = t .rule ∙ ap₂ (pick (eqb op RULED)) long (h .rule);
+        rules = sym (length-take-le n lengths' (t .few)) ∙ ap length ended;
+        first = ap (soonerOf (e .fault)) (h .first);
+        breadth = ap (pick (eqb op BITS) a) (h .breadth);
+        start = ap (pick (eqb op BITS) p) (h .start);
+        cases = ap (aroundOf op) (h .cases);
+        rule = ap₂ (pick (eqb op RULED)) long (h .rule);
       }
     where
-      long : r .out ≡ length (s .code ++ emitsOf (e .emits))
-      long = t .out ∙ ap (λ (n : ℕ). n + length (emitsOf (e .emits))) (h .long) ∙ sym (length-append (s .code) (emitsOf (e .emits)))
+      long : o ≡ length (s .code ++ emitsOf (e .emits))
+      long = t .long ∙ ap (λ (k : ℕ). k + length (emitsOf (e .emits))) (h .long) ∙ sym (length-append (s .code) (emitsOf (e .emits)))
 
-      ended : take (r .rules) lengths' ≡ endedOf (eqb op RULED && ltb (length (s .lengths)) room) (length (s .code ++ emitsOf (e .emits)) - s .rule) (s .lengths)
-      ended = t .ended ∙ ap₂ (λ (b : Bool) (l : List ℕ). endedOf b (r .out - far .rule) l) (ap (λ (n : ℕ). eqb op RULED && ltb n room) (h .rules)) (h .ended)
-          ∙ ap (λ (n : ℕ). endedOf (eqb op RULED && ltb (length (s .lengths)) room) n (s .lengths)) (ap₂ _-_ long (h .rule))
+      ended : take n lengths' ≡ endedOf (eqb op RULED && ltb (length (s .lengths)) room) (length (s .code ++ emitsOf (e .emits)) - s .rule) (s .lengths)
+      ended = t .ended ∙ ap₂ (λ (b : Bool) (l : List ℕ). endedOf b (o - far .rule) l) (ap (λ (k : ℕ). eqb op RULED && ltb k room) (h .rules)) (h .ended)
+          ∙ ap (λ (k : ℕ). endedOf (eqb op RULED && ltb (length (s .lengths)) room) k (s .lengths)) (ap₂ _-_ long (h .rule))
 
-  pub turn : (b c d : ℕ) (e : Effect) → e ≡ effectOf op p a b c d (seenOf s a) → Turned widths starts slots code lengths far e op p a widths' starts' slots' code' lengths' r
-      → Holds widths' starts' slots' code' lengths' r (stepOf s op p a b c d)
+  turn : (b c d : ℕ) (e : Effect) → e ≡ effectOf op p a b c d (seenOf s a) → Turned widths starts slots code lengths far e op a widths' starts' slots' code' lengths' w o n
+      → (r : Far) → r ≡ onwardOf op p a (e .fault) w o n far → Holds widths' starts' slots' code' lengths' r (stepOf s op p a b c d)
   unfolding stepBy stepOf
-  turn b c d e is t = rw is at (by-effect e t)
+  turn b c d e is t r q =
+      subst (λ (y : Far). Holds widths' starts' slots' code' lengths' y (stepBy s (effectOf op p a b c d (seenOf s a)) op p a)) (sym q)
+      (subst (λ (x : Effect). Holds widths' starts' slots' code' lengths' (onwardOf op p a (e .fault) w o n far) (stepBy s x op p a)) is (by-effect e t))
+
+  -- the same by the numbers of item i
+  pub turn-at : (t : List ℕ) (i : ℕ) → op ≡ getD t (6 * i + 0) 0 → p ≡ getD t (6 * i + 1) 0 → a ≡ getD t (6 * i + 2) 0 → (e : Effect) (v : Seen) → e ≡ effectAt t i v → v ≡ seenOf s a
+      → Turned widths starts slots code lengths far e op a widths' starts' slots' code' lengths' w o n → (r : Far) → r ≡ onwardOf op p a (e .fault) w o n far
+      → Holds widths' starts' slots' code' lengths' r (stepAt s t i)
+  unfolding stepAt effectAt
+  turn-at t i ho hp ha e v he hv h' r q =
+      let z : 6 * i + 0 ≡ 6 * i = omega arith in
+      let ho' : op ≡ getD t (6 * i) 0 = ho ∙ ap (λ (k : ℕ). getD t k 0) z in
+      rw (← ho', ← hp, ← ha) (turn (getD t (6 * i + 3) 0) (getD t (6 * i + 4) 0) (getD t (6 * i + 5) 0) e (rw (← ho', ← hp, ← ha, hv) at he) h' r q)
+
+-- how far it is then: the bounds of one item more, and what is past what was written
+module _ (op p a : ℕ) (f : Place) (w o n : ℕ) (far r : Far) (is : r ≡ onwardOf op p a f w o n far) where
+  pub onward-bounded : (i : ℕ) → Bounded far i → w ≤ far .waits + 1 → far .out ≤ o → o ≤ far .out + 4 → n ≤ room → r .cases ≤ far .cases + 1 → Bounded r (i + 1)
+  unfolding onwardOf
+  onward-bounded i b hw more ho hn hc =
+      let x : r .waits ≡ w = ap (λ (y : Far). y .waits) is in
+      let z : r .out ≡ o = ap (λ (y : Far). y .out) is in
+      record {
+        waits = omega (arith, b .waits);
+        out = omega (arith, b .out);
+        cases = omega (arith, b .cases);
+        rule = subst (λ (k : ℕ). r .rule ≤ k) (sym z) (pick-within (eqb op RULED) o (far .rule) (r .rule) (ap (λ (y : Far). y .rule) is) (omega (arith, b .rule)));
+        rules = subst (λ (k : ℕ). k ≤ room) (sym (ap (λ (y : Far). y .rules) is)) hn;
+      }
+
+  pub code-kept : {m : ℕ} {l l' : List ℕ} → Kept m o l l' → Kept m (r .out) l l'
+  unfolding onwardOf
+  code-kept {m = m} {l = l} {l' = l'} k = subst (λ (y : ℕ). Kept m y l l') (sym (ap (λ (y : Far). y .out) is)) k
+
+  pub lengths-kept : {m : ℕ} {l l' : List ℕ} → Kept m n l l' → Kept m (r .rules) l l'
+  unfolding onwardOf
+  lengths-kept {m = m} {l = l} {l' = l'} k = subst (λ (y : ℕ). Kept m y l l') (sym (ap (λ (y : Far). y .rules) is)) k

@@ -13,11 +13,11 @@ use Rattle.language.specs.Tree.{spelledOf}
 use Rattle.language.specs.Values.{bitOf}
 use Rattle.language.specs.Sizes.{Setting}
 use Rattle.language.specs.Meaning.{portAt}
-use Rattle.words.proofs.Spelled.{same-eq}
+use Rattle.spelling.proofs.Laws.{same-eq}
 use Rattle.placed.proofs.Names.{same-refl, index-below, length-spelled}
-use Rattle.value.proofs.Digits.{bit-lt, or-bit}
-use Rattle.value.proofs.Sets.{zero-bit}
-use Rattle.value.proofs.Rules.{port-bit, port-alone}
+use Rattle.bits.proofs.Digits.{bit-lt, or-bit}
+use Rattle.bits.proofs.Sets.{zero-bit}
+use Rattle.bits.proofs.Rules.{port-bit, port-alone}
 use Rattle.row12_presence.specs.Walk.{has, maskBits, withPort}
 
 -- ---- masks

@@ -13,7 +13,7 @@ use Rattle.language.specs.Sizes.{Setting, Let, letNamed}
 use Rattle.placed.specs.Placed.{Every}
 use Rattle.placed.proofs.Every.{append-every}
 use Rattle.placed.proofs.Names.{missing-none, every-among}
-use Rattle.words.proofs.Spelled.{same-eq}
+use Rattle.spelling.proofs.Laws.{same-eq}
 use Rattle.settled.specs.Settled.{slotsFrom}
 
 -- ---- ports

@@ -16,11 +16,11 @@ ghost use Rattle.row12_presence.specs.Walk.{has, withPort, faulty, nextO
 
 // Sets of ports, each a mask with bit k for port k: those that this rule lists with `.p.1`, the outputs that it has assigned,
 // those assigned so far in all groups, and those assigned in earlier groups.
-pub struct Met {
-    pub required: u32,
-    pub assigned: u32,
-    pub everywhere: u32,
-    pub earlier: u32,
+struct Met {
+    required: u32,
+    assigned: u32,
+    everywhere: u32,
+    earlier: u32,
 }
 
 // Whether a set has a port.

@@ -1,4 +1,2 @@
-pub mod Items
-pub mod Sections
 pub mod Turns
 pub mod Whole

@@ -7,11 +7,11 @@ use native.Mathlib.Nat.{add-zero}
 use native.Mathlib.Numerals.{add-one}
 use lib.ListN.{length, take, drop, getD, set, length-append, drop-of-length-le}
 use lib.Seq.{sets, drop-cons, getD-take, length-take-le}
-use Rattle.row13_plan.specs.Made.{counted, picked}
-use Rattle.row13_plan.specs.Sections.{itemsFrom, itemAt, markOf, widthOf, numbersOf, sectionOf, Few, Put}
-use Rattle.row13_plan.specs.declared.Section.{Section}
-use Rattle.row13_plan.proofs.Items.{pick-here, pick-past, pick-end}
-use Rattle.row13_plan.proofs.Sections.{numbers-long, put-more, put-length}
+use Rattle.section_items.specs.Items.{counted, picked}
+use Rattle.section_items.specs.Sections.{itemsFrom, itemAt, markOf, widthOf, numbersOf, sectionOf, Few, Put}
+use Rattle.section_items.specs.declared.Section.{Section}
+use Rattle.section_items.proofs.Items.{pick-here, pick-past, pick-end}
+use Rattle.section_items.proofs.Sections.{numbers-long, put-more, put-length}
 
 -- ---- the code
 

@@ -7,12 +7,13 @@ use borrow.Author.Tests.{le-leb, lt-leb}
 use lib.ListN.{length, take, set, length-append, length-set}
 use lib.Seq.{sets, length-sets, length-take-le}
 use Rattle.settled.specs.Form.{RULE, OR, MEMORY, SIGNED}
-use Rattle.row13_plan.specs.Made.{Item, counted, planIn, answerOf, tableAfter}
-use Rattle.row13_plan.specs.Sections.{numbersOf, sectionOf, Put}
+use Rattle.row13_plan.specs.Made.{planIn, answerOf, tableAfter}
+use Rattle.section_items.specs.Items.{Item, counted}
+use Rattle.section_items.specs.Sections.{numbersOf, sectionOf, Put}
 use Rattle.row13_plan.specs.declared.Answer.the-variants.{Plan, NoRoom}
-use Rattle.row13_plan.specs.declared.Section.{Section}
-use Rattle.row13_plan.specs.declared.Section.the-variants.{Ports, Memories, Groups, Rules}
-use Rattle.row13_plan.proofs.Sections.{section-long, put-more, put-length}
+use Rattle.section_items.specs.declared.Section.{Section}
+use Rattle.section_items.specs.declared.Section.the-variants.{Ports, Memories, Groups, Rules}
+use Rattle.section_items.proofs.Sections.{section-long, put-more, put-length}
 
 module _ (items : List Item) (code lengths : List ℕ) (long : ℕ) where
   abbrev thePlan : List ℕ

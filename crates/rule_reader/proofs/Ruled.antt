@@ -13,7 +13,8 @@ use Rattle.language.specs.Words.{Word}
 use Rattle.language.specs.Tree.{Val, Assignment, alone, scoped, Group}
 use Rattle.language.specs.Reader.{Res, ok, bad, bind, on, is, isName, expect, until, manyP, someP, commasP}
 use Rattle.language.specs.Parser.{Start, opens, names, isStart, valP, assignmentP, statementP, entryP, ruleP, groupP, constraintP}
-use Rattle.words.specs.Table.{spelledWords, wordOf}
+use Rattle.signs.specs.Kinds.{spelledWords}
+use Rattle.words.specs.Table.{wordOf}
 use Rattle.tape.specs.Tape.{flats, flatVal, flatAssignment, flatStatement, flatGroup}
 use Rattle.readers.specs.Marks.{kindAt, placeAt, nameAt, Marked, fixedOf}
 use Rattle.readers.specs.Meets.{Agrees, read, fault, Met, Closes, closes, missing, faulty}

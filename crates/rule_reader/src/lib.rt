@@ -14,13 +14,14 @@ use readers::closed;
 use readers::emit;
 use readers::kind;
 use readers::put;
+use signs::kinds;
 use tape::END;
 use tape::GROUPED;
 use tape::LET;
 use tape::OR;
 use tape::RULE;
 use tape::RULED;
-use words::kinds;
+ghost use Rattle.signs.specs.Kinds.{andKind, letKind, nameKind, orKind};
 ghost use Rattle.readers.specs.Meets.{Room, Starts};
 ghost use Rattle.rule_reader.specs.Rules.{IsVals, IsAssignments, IsScoped, IsStatements, IsRule, IsRules, IsGroup, IsGroups, IsConstraint};
 ghost use Rattle.rule_reader.specs.Tails.{IsWritten, IsBody};
@@ -70,7 +71,7 @@ fn assignments(words: &Table, tape: &mut Tape, at: usize, n: usize) -> Out
 
 // `let` with its `val`s, then `in` and what it ends with.
 fn scoped(words: &Table, tape: &mut Tape, at: usize, n: usize) -> Out
-    requires { ⌜ Starts (now words) at n 10 ⌝ }
+    requires { ⌜ Starts (now words) at n letKind ⌝ }
     ensures { λ r. ⌜ IsScoped (now (words .entry)) at n (now (tape .entry)) r (now (tape .exit)) ⌝ }
 {
     let k = kind(words, at + 1);
@@ -129,7 +130,7 @@ fn statements(words: &Table, tape: &mut Tape, at: usize, n: usize) -> Out
 
 // A rule: its name, its entries in parentheses, its body in braces.
 fn rule(words: &Table, tape: &mut Tape, at: usize, n: usize) -> Out
-    requires { ⌜ Starts (now words) at n 2 ⌝ }
+    requires { ⌜ Starts (now words) at n nameKind ⌝ }
     ensures { λ r. ⌜ IsRule (now (words .entry)) at n (now (tape .entry)) r (now (tape .exit)) ⌝ }
 {
     let k = kind(words, at + 1);
@@ -183,7 +184,7 @@ fn rules(words: &Table, tape: &mut Tape, at: usize, n: usize) -> Out
 
 // A group: `or` and its rules in parentheses.
 fn group(words: &Table, tape: &mut Tape, at: usize, n: usize) -> Out
-    requires { ⌜ Starts (now words) at n 9 ⌝ }
+    requires { ⌜ Starts (now words) at n orKind ⌝ }
     ensures { λ r. ⌜ IsGroup (now (words .entry)) at n (now (tape .entry)) r (now (tape .exit)) ⌝ }
 {
     let k = kind(words, at + 1);
@@ -241,7 +242,7 @@ pub fn constraint(words: &Table, tape: &mut Tape, at: usize, n: usize) -> Out
 
 // `and` and its groups in parentheses.
 fn conjunction(words: &Table, tape: &mut Tape, at: usize, n: usize) -> Out
-    requires { ⌜ Starts (now words) at n 8 ⌝ }
+    requires { ⌜ Starts (now words) at n andKind ⌝ }
     ensures { λ r. ⌜ IsConstraint (now (words .entry)) at n (now (tape .entry)) r (now (tape .exit)) ⌝ }
 {
     let k = kind(words, at + 1);

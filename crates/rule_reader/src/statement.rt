@@ -7,20 +7,21 @@ use readers::closed;
 use readers::kind;
 use readers::memory;
 use readers::put;
+use signs::kinds;
 use tape::ASSIGN;
 use tape::VAL;
 use tape::WRITE;
 use type_reader::typ;
-use words::kinds;
 ghost use mathlib.Core.Path.{_≡_};
 ghost use mathlib.Core.Bool.{true};
+ghost use Rattle.signs.specs.Kinds.{nameKind};
 ghost use Rattle.readers.specs.Marks.{isMemory, valueAt};
 ghost use Rattle.readers.specs.Meets.{Room, Starts};
 ghost use Rattle.rule_reader.specs.States.{IsAssignment, IsBinding, IsVal};
 
 // A name and what is written to it, with an address where it is a memory.
 pub fn assignment(words: &Table, tape: &mut Tape, at: usize, n: usize) -> Out
-    requires { ⌜ Starts (now words) at n 2 ⌝ }
+    requires { ⌜ Starts (now words) at n nameKind ⌝ }
     ensures { λ r. ⌜ IsAssignment (now (words .entry)) at n (now (tape .entry)) r (now (tape .exit)) ⌝ }
 {
     let is_memory = memory(words, at);
@@ -43,7 +44,7 @@ pub fn assignment(words: &Table, tape: &mut Tape, at: usize, n: usize) -> Out
 
 // A memory, its address, and what is written there.
 fn write(words: &Table, tape: &mut Tape, at: usize, n: usize) -> Out
-    requires { ⌜ Starts (now words) at n 2 ⌝ }
+    requires { ⌜ Starts (now words) at n nameKind ⌝ }
     requires { ⌜ isMemory (valueAt (now words) at) ≡ true ⌝ }
     ensures { λ r. ⌜ IsAssignment (now (words .entry)) at n (now (tape .entry)) r (now (tape .exit)) ⌝ }
 {

@@ -19,8 +19,8 @@ use Rattle.tape.proofs.Tapes.{Goes, goes-none, goes-both, goes-item}
 use Rattle.type_value.specs.Terms.{code}
 use Rattle.settled.specs.Form.{SIGNED, MEMORY, six}
 use Rattle.settled.specs.Settled.{settledSigned, settledMemory, settledGroup, settledOf}
-use Rattle.settle.specs.Lookup.{operand}
-use Rattle.settle.specs.Walk.{Around, State, start, step, takes, without, grown, when, memoryWidthOut, signedOut, namedOut, written}
+use Rattle.looked_up.specs.Lookup.{operand}
+use Rattle.item_writes.specs.Walk.{Around, State, start, step, takes, without, grown, when, memoryWidthOut, signedOut, namedOut, written}
 use Rattle.settle.proofs.Types.{types-go}
 use Rattle.settle.proofs.Leaving.{state, Writes, wrote, writes-none, writes-both, writes-item, writes-many}
 use Rattle.settle.proofs.Settings.{portsOf, memoriesOf, sizeGiven, around, Small, operand-is, termIn, Right, sound}

@@ -16,7 +16,7 @@ use Rattle.tape.specs.Tape.{item, flat, flatD, flatVal, flatAssignment, flats, 
 use Rattle.tape.specs.Walk.{opAt, placeAt, valueAt, add, pick}
 use Rattle.tape.proofs.Does.{Ran, Does, none, both, single, walked}
 use Rattle.tape.proofs.Asks.{never, asked, Asks, decl-asks, expr-asks}
-use Rattle.settle.specs.Lookup.{named, sizeBefore, sizesOn}
+use Rattle.looked_up.specs.Lookup.{named, sizeBefore, sizesOn}
 use Rattle.settle.proofs.Settings.{sizeGiven, sizesOf}
 
 -- ---- the declarations met so far, and the size for the next memory

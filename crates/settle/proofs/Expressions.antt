@@ -24,8 +24,8 @@ use Rattle.row09_bindings.proofs.Indices.{index-most}
 use Rattle.plan.specs.Items.{unaryNumber, binaryNumber}
 use Rattle.settled.specs.Form.{BITS, HELD, READ, CELL, RANGE, six}
 use Rattle.settled.specs.Settled.{amount, placed, settledBreadth, settledAmount, settledCell, settledPort, settledRead, settled}
-use Rattle.settle.specs.Lookup.{operand}
-use Rattle.settle.specs.Walk.{Around, State, step, takes, without, grown, latest, when, sumOf, widthIn, positionIn, portOut, memoryWidthOut, cellOut, readOut, namedOut, written}
+use Rattle.looked_up.specs.Lookup.{operand, sumOf}
+use Rattle.item_writes.specs.Walk.{Around, State, step, takes, without, grown, latest, when, widthIn, positionIn, portOut, memoryWidthOut, cellOut, readOut, namedOut, written}
 use Rattle.settle.proofs.Types.{types-go}
 use Rattle.settle.proofs.Leaving.{state, goes-wrote, Writes, writes-both, writes-item, writes-three, writes-four}
 use Rattle.settle.proofs.Settings.{portsOf, memoriesOf, sizesOf, around, Small, operand-is, cells-before, cells-of, sum-within, Right, sound, width-is, position-is}

@@ -6,7 +6,7 @@ use Rattle.language.specs.Parts.{each}
 use Rattle.placed.specs.Placed.{Every}
 use Rattle.tape.specs.Tape.{item, flats}
 use Rattle.tape.proofs.Tapes.{Goes, goes-none, goes-both, goes-item}
-use Rattle.settle.specs.Walk.{Around, State, step}
+use Rattle.item_writes.specs.Walk.{Around, State, step}
 
 abbrev pub state : (types : List (List ℕ)) → (out : List ℕ) → (lets : List (List ℕ)) → (vals size : ℕ) → State
 state types out lets vals size = record { types = types; out = out; lets = lets; vals = vals; size = size }

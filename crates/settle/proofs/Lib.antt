@@ -1,9 +1,5 @@
--- What the proofs share. Of the code: where a name stands among the items of a tape, and among the lines of the bindings (Numbers); the
--- types that wait (Waiting); what an item writes (Writing); one item (Turns). Then the theorem (Whole): the walk over an actor's tape gives
--- its settled items, part by part from types (Types) to the actor (Actors), with what it looks up (Settings, Around) and what rows 6 to 8 and 10 leave of an actor (Rights).
-pub mod Numbers
-pub mod Waiting
-pub mod Writing
+-- What the proofs share. Of the code: one item (Turns). Then the theorem (Whole): the walk over an actor's tape gives its settled items, part by part
+-- from types (Types) to the actor (Actors), with what it looks up (Settings, Around) and what rows 6 to 8 and 10 leave of an actor (Rights).
 pub mod Turns
 pub mod Types
 pub mod Leaving

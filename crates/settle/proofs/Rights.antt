@@ -25,10 +25,10 @@ use Rattle.placed.proofs.Worded.{parsed-short}
 use Rattle.typing.proofs.Rules.{passed, type-right}
 use Rattle.typing.proofs.Accepted.{All, RightType, types-right}
 use Rattle.tape.proofs.Listed.{inStatement}
-use Rattle.value.proofs.Sets.{both-right}
+use Rattle.bits.proofs.Sets.{both-right}
 use Rattle.row10_widths.specs.Row.{Asked}
 use Rattle.row10_widths.proofs.Whole.{every-all, not-too-many, memory-names, low-values, few-ports, few-memories, wants-long}
-use Rattle.settle.specs.Walk.{sumOf}
+use Rattle.looked_up.specs.Lookup.{sumOf}
 use Rattle.settle.proofs.Settings.{sizesOf, Small, Right}
 use Rattle.settle.proofs.Expressions.{halves}
 use Rattle.settle.proofs.Statements.{RightExpr, RightVal, RightStatement, RightRule}

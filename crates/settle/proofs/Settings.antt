@@ -18,7 +18,7 @@ use Rattle.language.specs.Types.{exactOf, floorOf, widthOf, positionOf}
 use Rattle.language.specs.Widths.{valueIn, portWidth}
 use Rattle.language.specs.Sizes.{Setting}
 use Rattle.language.specs.Meaning.{cellsBefore, cellsOf}
-use Rattle.words.specs.Constant.{constantAt}
+use Rattle.sized_constants.specs.Constant.{constantAt}
 use Rattle.placed.specs.Placed.{nameFrom, PlacedType}
 use Rattle.type_value.specs.Terms.{Term, code, resolve, valueAt, Fine, TypeOf}
 use Rattle.type_value.specs.Walk.{valueOf}
@@ -30,8 +30,8 @@ use Rattle.type_value.proofs.Tested.{value-of-safe}
 use Rattle.typing.proofs.Rules.{resolved}
 use Rattle.settled.specs.Form.{OUTSIDE}
 use Rattle.settled.specs.Settled.{placed}
-use Rattle.settle.specs.Lookup.{operand}
-use Rattle.settle.specs.Walk.{Around, sumOf}
+use Rattle.looked_up.specs.Lookup.{operand, sumOf}
+use Rattle.item_writes.specs.Walk.{Around}
 use Rattle.settle.proofs.Types.{Sound}
 
 -- the names of the ports, and of the memories, by number

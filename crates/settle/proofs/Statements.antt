@@ -18,8 +18,8 @@ use Rattle.tape.specs.Tape.{item, flatD, isTyped, flatVal, flatAssignment, flat
 use Rattle.tape.proofs.Tapes.{Goes, goes-none, goes-both, goes-item}
 use Rattle.settled.specs.Form.{ASSIGN, WRITE, TYPED, VAL, PRESENT, six}
 use Rattle.settled.specs.Settled.{one-if, settled, settledPort, settledCell, settledAssignment, settledKept, slotsFrom, settledVals, settledBody, settledEntry, settledRule, settledGroup}
-use Rattle.settle.specs.Lookup.{operand}
-use Rattle.settle.specs.Walk.{Around, step, takes, without, latest, grown, when, widthIn, namedOut, written}
+use Rattle.looked_up.specs.Lookup.{operand}
+use Rattle.item_writes.specs.Walk.{Around, step, takes, without, latest, grown, when, widthIn, namedOut, written}
 use Rattle.settle.proofs.Types.{types-go}
 use Rattle.settle.proofs.Leaving.{state, goes-wrote, Writes, wrote, writes-both, writes-item, writes-three, writes-many}
 use Rattle.settle.proofs.Settings.{portsOf, around, Small, operand-is, Right, sound, width-is}

@@ -13,11 +13,11 @@ use Rattle.tape.specs.Tape.{VAL, END, RULED}
 use Rattle.tape.specs.declared.Class.{Class}
 use Rattle.tape.specs.Walk.{opAt, placeAt, valueAt, hit, add, namesOn, between}
 use Rattle.tape.proofs.Seens.{more}
-use Rattle.settle.specs.declared.Far.{Far}
-use Rattle.settle.specs.declared.Written.{Written}
-use Rattle.settle.specs.declared.Written.the-variants.{Nothing, Six}
-use Rattle.settle.specs.Walk.{Around, State, when, without, takes, grown, written, step, walked, aroundOf}
-use Rattle.settle.specs.Tables.{waitsIn, numbersOf, letsAfter, valsAfter, sizeAfter, stateOf}
+use Rattle.item_writes.specs.declared.Far.{Far}
+use Rattle.item_writes.specs.declared.Written.{Written}
+use Rattle.item_writes.specs.declared.Written.the-variants.{Nothing, Six}
+use Rattle.item_writes.specs.Walk.{Around, State, when, without, takes, grown, written, step, walked, aroundOf}
+use Rattle.item_writes.specs.Tables.{waitsIn, numbersOf, letsAfter, valsAfter, sizeAfter, stateOf}
 
 -- ---- bounds
 

@@ -8,7 +8,7 @@ use Rattle.language.specs.Tree.{Ty, number, environment, port, plus, minus, log
 use Rattle.tape.specs.Tape.{item, flatT, NUMBER, ENVIRONMENT, PORT, PLUS, MINUS, LOG, CEIL, FLOOR, MOST, ENTRY, WITHIN}
 use Rattle.tape.proofs.Tapes.{Goes, goes-both, goes-item}
 use Rattle.type_value.specs.Terms.{code, resolve}
-use Rattle.settle.specs.Walk.{Around, State, step, takes, without, grown, leaf, ends, joins, when, namedOut, written}
+use Rattle.item_writes.specs.Walk.{Around, State, step, takes, without, grown, leaf, ends, joins, when, namedOut, written}
 
 -- names spelled as the walk finds them, and leaves that 32 bits hold
 abbrev pub Sound : Around → Ty → Type 0

@@ -24,7 +24,7 @@ use Rattle.row09_bindings.proofs.Tables.{values-on}
 use Rattle.row10_widths.specs.Row.{Asked}
 use Rattle.settled.specs.Form.{BIG, AMOUNT, six}
 use Rattle.settled.specs.Settled.{amount, settledOf}
-use Rattle.settle.specs.Walk.{Around, State, start, step, walked, when, aroundOf, settledOn, portOut, cellOut, readOut, signedOut, namedOut, written}
+use Rattle.item_writes.specs.Walk.{Around, State, start, step, walked, when, aroundOf, settledOn, portOut, cellOut, readOut, signedOut, namedOut, written}
 use Rattle.settle.proofs.Settings.{around}
 use Rattle.settle.proofs.Actors.{actor-goes}
 use Rattle.settle.proofs.Around.{ports-are, memories-are, sizes-are}

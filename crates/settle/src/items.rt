@@ -6,7 +6,7 @@ use tape::RANGE;
 use tape::TYPED;
 use tape::VAL;
 ghost use mathlib.Core.Path.{_≡_};
-ghost use Rattle.settle.specs.Walk.{takes as takesOf};
+ghost use Rattle.item_writes.specs.Walk.{takes as takesOf};
 
 // How many of the types that wait an item takes.
 pub fn takes(op: u32, value: u32) -> u32

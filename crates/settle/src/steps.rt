@@ -1,13 +1,13 @@
 // One item of the tape: what it writes and does is put into the tables.
-use crate::Counts;
-use crate::Far;
-use crate::Waits;
-use crate::Written;
 use crate::items::takes;
-use crate::nodes::grow;
-use crate::nodes::growth;
-use crate::nodes::without;
-use crate::writes::written;
+use item_writes::Counts;
+use item_writes::Far;
+use item_writes::Waits;
+use item_writes::Written;
+use item_writes::grow;
+use item_writes::growth;
+use item_writes::without;
+use item_writes::writes::written;
 use tape::END;
 use tape::MEMORY;
 use tape::RULED;
@@ -19,12 +19,9 @@ ghost use mathlib.Core.Path.{_≡_};
 ghost use Prim.Native.Nat.{_+_, _*_, _≤_, _<_};
 ghost use lib.ListN.{length};
 ghost use lib.Seq.{sets};
-ghost use Rattle.tape.specs.Walk.{opAt, placeAt, valueAt};
 ghost use Rattle.laws.specs.Tables.{Kept};
-ghost use Rattle.settle.specs.Walk.{step as stepOf, aroundOf};
-ghost use Rattle.settle.specs.Tables.{numbersOf, beginning, letsAfter, valsAfter, sizeAfter, stateOf, Bounded};
+ghost use Rattle.item_writes.specs.Tables.{numbersOf, beginning, letsAfter, valsAfter, sizeAfter, stateOf, Bounded, Roomy, aroundIn, turned};
 
-// The item before a memory's that gives its size.
 // Before the first item.
 pub fn begin() -> Far
     ensures { λ r. ⌜ r ≡ beginning ⌝ }
@@ -106,8 +103,13 @@ pub fn step(
     out: &mut [u32],
     far: Far,
 ) -> Far
-    requires { ⌜ (3 * many .items ≤ length (now tape)) × (many .items ≤ mostItems) × (i < many .items) × (3 * (many .widths + many .values) ≤ length (now table)) × (length (now code) ≡ mostItems) × (length (now starts) ≡ mostItems) × (6 * i + 6 ≤ length (now out)) × Bounded (now starts) i far ⌝ }
-    ensures { λ r. ⌜ Bounded (now (starts .exit)) (i + 1) r × Kept (far .out) (r .out) (now (out .entry)) (now (out .exit)) × (stateOf (now (text .entry)) (now (tape .entry)) (now (code .exit)) (now (starts .exit)) (now (out .exit)) (i + 1) r ≡ stepOf (aroundOf (now (text .entry)) (now (tape .entry)) (many .items) (now (btext .entry)) (now (table .entry)) (many .widths) (many .values) (now (widths .entry))) (stateOf (now (text .entry)) (now (tape .entry)) (now (code .entry)) (now (starts .entry)) (now (out .entry)) i far) (opAt (now (tape .entry)) i) (placeAt (now (tape .entry)) i) (valueAt (now (tape .entry)) i)) ⌝ }
+    requires { ⌜ Roomy (now tape) (now table) (now code) (now starts) (now out) many i far ⌝ }
+    ensures { λ r. ⌜ Bounded (now (starts .exit)) (i + 1) r
+        × Kept (far .out) (r .out) (now (out .entry)) (now (out .exit))
+        × (stateOf (now (text .entry)) (now (tape .entry)) (now (code .exit)) (now (starts .exit)) (now (out .exit)) (i + 1) r
+        ≡ turned (aroundIn (now (text .entry)) (now (tape .entry)) (now (btext .entry)) (now (table .entry)) (now (widths .entry)) many)
+        (stateOf (now (text .entry)) (now (tape .entry)) (now (code .entry)) (now (starts .entry)) (now (out .entry)) i far)
+        (now (tape .entry)) i) ⌝ }
 {
     let op = tape[3 * i];
     let v = tape[3 * i + 2];

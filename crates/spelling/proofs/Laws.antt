@@ -3,10 +3,11 @@ use mathlib.Core.Path.{_≡_, refl, sym, ap, _∙_}
 use mathlib.Core.Bool.{Bool, true, false, not, _&&_, _||_}
 use mathlib.Core.List.{List, [], _∷_, _++_}
 use mathlib.Core.Logic.{_⊎_, inl, inr}
+use Prim.Native.String.{String}
 use Prim.Native.Nat.{ℕ, zero, suc, _+_, _*_, _≤_, _<_}
 use native.Mathlib.Omega.{arith}
 use native.Mathlib.Numerals.{add-one}
-use native.Mathlib.Nat.{not-suc-le-zero}
+use native.Mathlib.Nat.{not-suc-le-zero, le-of-suc-le-suc}
 use lib.Dec.{leb, ltb, eqb, leb·suc-suc}
 use lib.ListN.{length, take, drop, getD, drop-of-length-le, replicate}
 use lib.Seq.{drop-cons}
@@ -15,6 +16,17 @@ use Rattle.language.specs.Text.{same, index, among}
 use Rattle.language.specs.Words.{bytes, digit, letter, plainByte, some-of, goodName, spellings, keywords}
 use Rattle.language.specs.Limits.{limits}
 use Rattle.spelling.specs.Fixed.{fixedNames, rowOf}
+
+pub never : {A : Type 0} → true ≡ false → A
+never e = absurd (let z : _≡_ {A = ℕ} 0 1 = cc in omega arith)
+
+pub both-left : (a b : Bool) → (a && b) ≡ true → a ≡ true
+both-left true b e = refl
+both-left false b e = e
+
+pub both-right : (a b : Bool) → (a && b) ≡ true → b ≡ true
+both-right true b e = e
+both-right false b e = never (sym e)
 
 -- ---- bytes between two others
 
@@ -34,6 +46,14 @@ above lo hi b h = simp (lt-leb _ _ h, and-false)
 or-true : (t : Bool) → (t || true) ≡ true
 or-true true = refl
 or-true false = refl
+
+pub digit-low : (b : ℕ) → digit b ≡ true → 48 ≤ b
+unfolding digit
+digit-low b e = leb-true 48 b (both-left (leb 48 b) (leb b 57) e)
+
+pub digit-high : (b : ℕ) → digit b ≡ true → b ≤ 57
+unfolding digit
+digit-high b e = leb-true b 57 (both-right (leb 48 b) (leb b 57) e)
 
 pub is-digit : (b : ℕ) → 48 ≤ b → b ≤ 57 → plainByte b ≡ true
 unfolding plainByte digit
@@ -144,24 +164,13 @@ unfoldable pub allBelow : ℕ → (ℕ → Bool) → Bool
 allBelow zero f = true
 allBelow (suc n) f = f n && allBelow n f
 
-and-left : (a b : Bool) → (a && b) ≡ true → a ≡ true
-and-left true b e = refl
-and-left false b e = e
-
-and-right : (a b : Bool) → (a && b) ≡ true → b ≡ true
-and-right true b e = e
-and-right false b e = absurd (no-true e)
-  where
-    no-true : false ≡ true → ⊥
-    no-true e = let z : _≡_ {A = ℕ} 0 1 = cc in omega arith
-
 pub below-all : (n : ℕ) (f : ℕ → Bool) → allBelow n f ≡ true → (k : ℕ) → k < n → f k ≡ true
 unfolding allBelow
 below-all zero f e k h = absurd (not-suc-le-zero h)
 below-all (suc n) f e k h =
     elim (order n k) [
-      | inl l ↦ (let q : k ≡ n = omega arith in ap f q ∙ and-left (f n) (allBelow n f) e)
-      | inr l ↦ below-all n f (and-right (f n) (allBelow n f) e) k l
+      | inl l ↦ (let q : k ≡ n = omega arith in ap f q ∙ both-left (f n) (allBelow n f) e)
+      | inr l ↦ below-all n f (both-right (f n) (allBelow n f) e) k l
     ]
 
 pub rows-many : length (spellings fixedNames) ≡ 21
@@ -196,3 +205,18 @@ next-of a l i = rw add-one
 pub index-over : (l : List (List ℕ)) (s : List ℕ) (i : ℕ) → length l ≤ i → index (drop i l) s ≡ 0
 unfolding index
 index-over l s i h = rw (drop-of-length-le l h)
+
+-- ---- runs that are the same, and a list's spelling
+
+pub same-eq : (s t : List ℕ) → same s t ≡ true → s ≡ t
+unfolding same
+same-eq [] [] e = refl
+same-eq [] (b ∷ t) e = never (sym e)
+same-eq (a ∷ s) [] e = never (sym e)
+same-eq (a ∷ s) (b ∷ t) e = let p = eqb-true a b (both-left (eqb a b) (same s t) e) in let q = same-eq s t (both-right (eqb a b) (same s t) e) in cc
+
+pub spelling-at : (l : List String) (j : ℕ) → j < length l → getD (spellings l) j [] ≡ bytes (getD l j "")
+unfolding spellings
+spelling-at [] j h = absurd (not-suc-le-zero h)
+spelling-at (s ∷ l) zero h = refl
+spelling-at (s ∷ l) (suc j) h = spelling-at l j (le-of-suc-le-suc h)

@@ -9,5 +9,12 @@ use Rattle.language.specs.Words.{keywords, spellings}
 unfoldable pub fixedNames : List String
 fixedNames = keywords ++ ("_" ∷ "foreach" ∷ "instruction" ∷ [])
 
+-- how many there are, and how many bytes the row of one has in the code's table
+abbrev pub fixedRows : ℕ
+fixedRows = 21
+
+abbrev pub rowBytes : ℕ
+rowBytes = 12
+
 unfoldable pub rowOf : ℕ → List ℕ
 rowOf i = getD (spellings fixedNames) i []

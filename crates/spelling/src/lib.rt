@@ -7,9 +7,17 @@ ghost use lib.ListN.{length, getD};
 ghost use mathlib.Core.List.{_∷_};
 ghost use Rattle.language.specs.Text.{index, same};
 ghost use Rattle.language.specs.Words.{digit, plainByte, nameByte, some-of, goodName, spellings};
-ghost use Rattle.spelling.specs.Fixed.{fixedNames, rowOf};
+ghost use Rattle.spelling.specs.Fixed.{fixedNames, fixedRows, rowBytes, rowOf};
 
 const NAME: usize = language::Actor::NAME as usize;
+
+// How many fixed words are spelled like names; the keywords come first.
+pub const FIXED: usize = 21;
+
+const KEYWORDS: usize = 18;
+
+// The bytes of a row.
+const ROW: usize = 12;
 
 // The fixed words that are spelled like names: a row of twelve bytes for each, its length first.
 const ROWS: [u8; 252] =
@@ -65,15 +73,15 @@ pub fn same_bytes(a: &[u8], b: &[u8]) -> bool
 
 // A byte of a row: at 0 the length of its word, then the word.
 fn cell(row: usize, i: usize) -> u8
-    requires { ⌜ (row < 21) × (i < 12) ⌝ }
+    requires { ⌜ (row < fixedRows) × (i < rowBytes) ⌝ }
     ensures { λ r. ⌜ r ≡ getD (length (rowOf row) ∷ rowOf row) i 0 ⌝ }
 {
-    ROWS[12 * row + i]
+    ROWS[ROW * row + i]
 }
 
 // Whether the run is the word of a row.
 fn row_is(row: usize, run: &[u8]) -> bool
-    requires { ⌜ row < 21 ⌝ }
+    requires { ⌜ row < fixedRows ⌝ }
     ensures { λ r. ⌜ r ≡ same (rowOf row) (now (run .entry)) ⌝ }
 {
     let long = cell(row, 0);
@@ -90,12 +98,12 @@ fn row_is(row: usize, run: &[u8]) -> bool
     true
 }
 
-// Which fixed word the run is, in the order of the rows; 21 where it is none.
+// Which fixed word the run is, in the order of the rows; `FIXED` where it is none.
 pub fn spelled(run: &[u8]) -> usize
     ensures { λ r. ⌜ r ≡ index (spellings fixedNames) (now (run .entry)) ⌝ }
 {
     let mut i = 0;
-    while i < 21 {
+    while i < FIXED {
         if row_is(i, run) {
             return i;
         }
@@ -117,14 +125,14 @@ fn some_plain(run: &[u8]) -> bool
     false
 }
 
-// Whether a run is a name: the first 18 rows are the keywords.
+// Whether a run is a name.
 pub fn good_name(run: &[u8]) -> bool
     ensures { λ r. ⌜ r ≡ goodName (now (run .entry)) ⌝ }
 {
     if NAME < run.len() {
         return false;
     }
-    if spelled(run) < 18 {
+    if spelled(run) < KEYWORDS {
         return false;
     }
     some_plain(run)

@@ -18,9 +18,9 @@ use Rattle.language.proofs.Statements.{declared-good}
 use Rattle.words.proofs.Runs.{IsRun, AllRuns, noMore, more}
 use Rattle.tape.specs.Tape.{item, MEMORY, flatT, flatD, flats, flatPort, flatSize, flatMemory, flatSigned, isTyped}
 use Rattle.head_reader.specs.Heads.{Head, headP, flatHead}
-use Rattle.syntax.specs.Marking.{placesOn, runsAt}
+use Rattle.name_marks.specs.Marking.{placesOn, runsAt}
 use Rattle.syntax.specs.Read.{groupsP}
-use Rattle.syntax.proofs.Marked.{places-memory, places-other}
+use Rattle.name_marks.proofs.Marked.{places-memory, places-other}
 
 -- ---- the places of the memories on the tape
 

@@ -1,3 +1,2 @@
-mod Marked
 mod Heading
 mod Whole

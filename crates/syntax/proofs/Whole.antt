@@ -29,7 +29,7 @@ use Rattle.tape.specs.Tape.{flats, flatGroup, flatActor}
 use Rattle.readers.specs.Marks.{count, placeAt, Marked}
 use Rattle.readers.specs.Meets.{On, Moved, Agrees, read, fault as faulty, Closes}
 use Rattle.head_reader.specs.Heads.{Head, headP, flatHead, actorOf, IsHead}
-use Rattle.syntax.specs.Marking.{WordsHeld, Taped, Remarked, placesOn, runsAt, memoriesOn}
+use Rattle.name_marks.specs.Marking.{WordsHeld, Taped, Remarked, placesOn, runsAt, memoriesOn}
 use Rattle.syntax.specs.Read.{treeSaid, wordsSaid, saidOf, treeAfter, wordsAfter, tapeAfter, Filed, Ready, Listed, groupsP, Judged, accepted, refused, IsEnding, IsTree, IsParsed, placeOr}
 use Rattle.readers.specs.declared.Out.{Out}
 use Rattle.readers.specs.declared.Out.the-variants.{At, Bad}
@@ -37,7 +37,7 @@ use Rattle.syntax.specs.declared.Said.the-variants.{Tape, Refused}
 use Rattle.readers.proofs.Laws.{on-more, on-as, moved-at, moved-bad, agrees-as}
 use Rattle.readers.proofs.Spells.{until-at, until-bad}
 use Rattle.readers.proofs.Fixed.{s-unbrace}
-use Rattle.syntax.proofs.Marked.{held-again, marked-of, same-count}
+use Rattle.name_marks.proofs.Marked.{held-again, marked-of, same-count}
 use Rattle.syntax.proofs.Heading.{head-memories, actor-parts}
 
 -- ---- the words in the table

@@ -19,7 +19,7 @@ use Rattle.tape.specs.Tape.{longest, mostItems, flatActor}
 use Rattle.readers.specs.Marks.{countAt, count, placeAt, Marked}
 use Rattle.readers.specs.Meets.{On, Moved}
 use Rattle.head_reader.specs.Heads.{Head, flatHead, actorOf}
-use Rattle.syntax.specs.Marking.{WordsHeld, Tabled}
+use Rattle.name_marks.specs.Marking.{WordsHeld, Tabled}
 use Rattle.readers.specs.declared.Out.{Out}
 use Rattle.readers.specs.declared.Out.the-variants.{At, Bad}
 use Rattle.syntax.specs.declared.Said.{Said}

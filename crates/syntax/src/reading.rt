@@ -1,7 +1,7 @@
 // From the text to the tape: its words, their marks, the head, and what follows it.
 use crate::Said;
-use crate::marks::mark;
 use head_reader::head;
+use name_marks::mark;
 use readers::COUNT;
 use readers::Out;
 use readers::Table;
@@ -10,8 +10,8 @@ use readers::closed;
 use readers::place;
 use readers::wide;
 use rule_reader::constraint;
+use signs::kinds;
 use tape::LENGTH;
-use words::kinds;
 ghost use mathlib.Core.Path.{_≡_};
 ghost use Prim.Native.Nat.{_≤_};
 ghost use lib.ListN.{take};
@@ -19,7 +19,7 @@ ghost use lib.Seq.{sets};
 ghost use Rattle.tape.specs.Tape.{mostItems};
 ghost use Rattle.readers.specs.Marks.{count};
 ghost use Rattle.readers.specs.Meets.{Room};
-ghost use Rattle.syntax.specs.Marking.{Taped};
+ghost use Rattle.name_marks.specs.Marking.{Taped};
 ghost use Rattle.syntax.specs.Read.{Filed, IsEnding, IsParsed, IsTree, Listed, Ready, Roomy, placeOr, saidOf, tapeAfter, wordsAfter, wordsSaid};
 
 const BYTES: usize = language::Actor::BYTES as usize;

@@ -152,8 +152,8 @@ pub fn either(a: bool, b: bool) -> bool
 pub fn name(text: &[u8], at: usize) -> &[u8]
     ensures { λ r. ⌜ now r ≡ nameFrom (now (text .entry)) at ⌝ }
 {
-    let n = words::run(text, at);
-    words::part(text, at, n)
+    let n = spans::run(text, at);
+    spans::part(text, at, n)
 }
 
 // Whether the same name stands at two places.
@@ -164,7 +164,7 @@ pub fn same_name(text: &[u8], p: usize, q: usize) -> bool
 }
 
 // Whether an item is of a class.
-pub fn is(class: Class, op: u32, value: u32) -> bool
+fn is(class: Class, op: u32, value: u32) -> bool
     ensures { λ r. ⌜ r ≡ hit class op value ⌝ }
 {
     match class {

@@ -23,7 +23,7 @@ use Rattle.language.specs.Reading.{Early, stopped, through, refused, accepted, 
 use Rattle.language.specs.declared.Text.{Text}
 use Rattle.language.specs.declared.Text.the-variants.{Actor as InActor}
 use Rattle.typing.proofs.Sentence.{exact-positive, width-sentence, width-only}
-use Rattle.cycle.specs.Cycle.{refusedBy, cycleOf}
+use Rattle.turn.specs.Cycle.{refusedBy, cycleOf}
 use Rattle.cycle.proofs.Answered.{cycle-answered, run-answered}
 use Rattle.plan_of.specs.PlanOf.{planOf}
 use Rattle.plan_of.specs.Theorems.{Planned}
@@ -32,10 +32,11 @@ use Rattle.plan_of.proofs.Theorems.{reads-planned}
 use Rattle.plan_of.proofs.Alike.{cycles-alike}
 use Rattle.lines.proofs.Placed.{line-around}
 use Rattle.row13_plan.specs.Made as Making
-use Rattle.tipi.specs.Told.{madeOf, answerOf, tableAfter, Read}
+use Rattle.tipi.specs.Told.{answerOf, tableAfter, Read}
+use Rattle.plan_answer.specs.Answered.{madeOf}
 use Rattle.tipi.specs.Demands.{RefusedCycle, Demand1, Demand2, HasWidth, Fulfils, LeastWidths, DemandWidths, Means, Demand3, DemandLine, Demands}
-use Rattle.tipi.specs.declared.Answer.{Answer}
-use Rattle.tipi.specs.declared.Answer.the-variants.{Plan, Refused}
+use Rattle.plan_answer.specs.declared.Answer.{Answer}
+use Rattle.plan_answer.specs.declared.Answer.the-variants.{Plan, Refused}
 use Rattle.tipi.proofs.Answers.{answers}
 use Rattle.tipi.proofs.Theorems.{reads-once, is-plan, read-given}
 

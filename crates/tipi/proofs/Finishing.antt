@@ -29,7 +29,7 @@ use Rattle.plan_of.specs.Accepted.{Accepted}
 use Rattle.plan_of.proofs.Grammar.{actor-grammatical}
 use Rattle.plan_of.proofs.Read.{words-of-text}
 use Rattle.settled.specs.Settled.{settledOf}
-use Rattle.row11_sizes.specs.Steps.{State, walk, begin}
+use Rattle.size_walk.specs.Steps.{State, walk, begin}
 use Rattle.plan_of.specs.Row11.{Measured}
 use Rattle.plan_of.proofs.Row11.{sized}
 use Rattle.plan_of.proofs.Facts.{limit-facts}
@@ -37,21 +37,20 @@ use Rattle.plan_of.proofs.Faultless.{few}
 use Rattle.row12_presence.specs.Walk as Presence
 use Rattle.row12_presence.proofs.Whole.{earliest-fault}
 use Rattle.settled.specs.Form.{RULE}
-use Rattle.row13_plan.specs.Made.{Item, itemsOf, picked, maskUpTo, ruleNumbers, planIn}
-use Rattle.row13_plan.specs.Made as Making
+use Rattle.row13_plan.specs.Made.{planIn}
+use Rattle.section_items.specs.Items.{Item, itemsOf, picked, maskUpTo, ruleNumbers}
 use Rattle.row13_plan.specs.Made.{tableAfter as tableWith}
-use Rattle.row13_plan.specs.declared.Answer as Made·answer
-use Rattle.row13_plan.specs.declared.Answer.the-variants.{Plan as IsPlan, NoRoom}
 use Rattle.plan_of.proofs.Row13.{made}
-use Rattle.settle.specs.Walk.{aroundOf, settledOn}
+use Rattle.item_writes.specs.Walk.{aroundOf, settledOn}
 use Rattle.settle.proofs.Whole.{walked-few, settled-is}
 use Rattle.row10_widths.specs.Row.{Settles, Fits, told}
 use Rattle.row10_widths.specs.declared.Answer as Resolved·answer
 use Rattle.row10_widths.specs.declared.Answer.the-variants.{Widths, Nothing}
-use Rattle.tipi.specs.Told.{answerOf, tableAfter, madeOf, Told, goes, After, Heard, Settled, lateOf, sums}
-use Rattle.tipi.specs.declared.Answer.{Answer}
-use Rattle.tipi.specs.declared.Answer.the-variants.{Plan, Refused}
-use Rattle.tipi.proofs.Judging.{no-fault}
+use Rattle.tipi.specs.Told.{answerOf, tableAfter, Told, goes, After, Heard, Settled, lateOf}
+use Rattle.plan_answer.specs.Answered.{madeOf, sums}
+use Rattle.plan_answer.specs.declared.Answer.{Answer}
+use Rattle.plan_answer.specs.declared.Answer.the-variants.{Plan, Refused}
+use Rattle.early_rows.proofs.Rows.{no-fault}
 
 -- ---- lengths in a table of zeros
 
@@ -101,24 +100,6 @@ padded-plan : (items : List Item) (code lengths : List ℕ) (k : ℕ) → planIn
 unfolding planIn
 padded-plan items code lengths k =
     rw (picked-as RULE (ruleNumbers (lengths ++ replicate k 0)) (ruleNumbers lengths) (λ j i l. ap (λ (n : ℕ). maskUpTo 1 l % 2 ^ 32 ∷ maskUpTo 0 l % 2 ^ 32 ∷ n ∷ []) (padded-get lengths k j)) 0 items)
-
--- ---- row 13
-
-abbrev pub sayMade : Made·answer.Answer → Answer
-sayMade (IsPlan l) = Plan l
-sayMade NoRoom = Refused 13 InActor 0
-
-module _ (items : List Item) (code lengths before : List ℕ) {n : ℕ} (e : n ≡ sums lengths) where
-  pub made-said : {r : Made·answer.Answer} → r ≡ Making.answerOf (planIn items (take n code) lengths) before → sayMade r ≡ madeOf (planIn items (take (sums lengths) code) lengths) before
-  unfolding Making.answerOf madeOf
-  made-said f = ap sayMade f ∙ go (leb (length (planIn items (take n code) lengths)) (length before)) ∙ ap (λ (k : ℕ). madeOf (planIn items (take k code) lengths) before) e
-    where
-      go : (b : Bool) → _≡_ {A = Answer} (sayMade (elim b [ true ↦ IsPlan (length (planIn items (take n code) lengths)) | false ↦ NoRoom ])) (elim b [ true ↦ Plan (length (planIn items (take n code) lengths)) | false ↦ Refused 13 InActor 0 ])
-      go true = refl
-      go false = refl
-
-  pub made-tabled : {after : List ℕ} → after ≡ tableWith (planIn items (take n code) lengths) before → after ≡ tableWith (planIn items (take (sums lengths) code) lengths) before
-  made-tabled f = f ∙ ap (λ (k : ℕ). tableWith (planIn items (take k code) lengths) before) e
 
 -- ---- rows 11 and 12 by their places
 

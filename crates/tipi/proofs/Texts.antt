@@ -30,9 +30,10 @@ use Rattle.bindings.specs.declared.Answer.the-variants.{Bound as IsBound, Wrong
 use Rattle.tape.specs.Row.{Tells}
 use Rattle.row09_bindings.specs.Lines.{Binds}
 use Rattle.row09_bindings.proofs.Tables.{Filled, read-fills}
-use Rattle.tipi.specs.Told.{answerOf, tableAfter, Told, Follows, stops, goes, After, TextsHeld, Read}
-use Rattle.tipi.specs.declared.Answer.{Answer}
-use Rattle.tipi.specs.declared.Answer.the-variants.{Plan, Refused}
+use Rattle.tipi.specs.Told.{answerOf, tableAfter, Told, Follows, stops, goes, After, Read}
+use Rattle.early_rows.specs.Verdicts.{TextsHeld}
+use Rattle.plan_answer.specs.declared.Answer.{Answer}
+use Rattle.plan_answer.specs.declared.Answer.the-variants.{Plan, Refused}
 
 -- a refusal is met as it stands
 pub refusal : (n : ℕ) (t : Text) (p : ℕ) {e : Early} (before : List ℕ) → e ≡ stopped n t p → After e (Refused n t p) before before

@@ -22,9 +22,10 @@ use Rattle.plan_of.specs.PlanOf.{planOf}
 use Rattle.plan_of.specs.Theorems.{Planned}
 use Rattle.plan_of.proofs.Theorems.{reads-planned}
 use Rattle.row13_plan.specs.Made as Making
-use Rattle.tipi.specs.Told.{madeOf, answerOf, tableAfter, Told, Read}
-use Rattle.tipi.specs.declared.Answer.{Answer}
-use Rattle.tipi.specs.declared.Answer.the-variants.{Plan, Refused}
+use Rattle.tipi.specs.Told.{answerOf, tableAfter, Told, Read}
+use Rattle.plan_answer.specs.Answered.{madeOf}
+use Rattle.plan_answer.specs.declared.Answer.{Answer}
+use Rattle.plan_answer.specs.declared.Answer.the-variants.{Plan, Refused}
 
 -- ---- one way
 

@@ -29,16 +29,16 @@ use Rattle.language.specs.declared.Text.{Text}
 use Rattle.language.specs.declared.Text.the-variants.{Actor as InActor}
 use Rattle.plan.specs.Layout.{portCount, portAt, memoryWidthAt}
 use Rattle.plan.specs.Sound.{soundOf}
-use Rattle.cycle.specs.Cycle.{cycleOf}
-use Rattle.cycle.specs.Turn.{outcome}
+use Rattle.turn.specs.Cycle.{cycleOf}
+use Rattle.turn.specs.Turn.{outcome}
 use Rattle.cycle.specs.Run.{result, runOf, cyclesOf, turnsIn, leftBy}
 use Rattle.placed.specs.Placed.{Every}
 use Rattle.plan_of.specs.PlanOf.{planOf}
 use Rattle.plan_of.specs.Theorems.{RunTables, SameGiven, Alike}
 use Rattle.lines.specs.Bounds.{ofText, LineStands, IsLineAt}
 use Rattle.tipi.specs.Told.{Read}
-use Rattle.tipi.specs.declared.Answer.{Answer}
-use Rattle.tipi.specs.declared.Answer.the-variants.{Plan, Refused}
+use Rattle.plan_answer.specs.declared.Answer.{Answer}
+use Rattle.plan_answer.specs.declared.Answer.the-variants.{Plan, Refused}
 
 -- ---- 1. "All input is met with a result .. A refusal gives its number, a reading refusal also its place, and leaves plan, memory and outputs as they stood."
 

@@ -13,7 +13,7 @@ use Rattle.language.specs.Bindings.{Bindings}
 use Rattle.language.specs.Widths.{strangers, unsettled, Resolved, Least}
 use Rattle.language.specs.Sizes.{Setting}
 use Rattle.language.specs.Reading as Reading
-use Rattle.language.specs.Reading.{Early, stopped, through, refused, accepted, Reads, late}
+use Rattle.language.specs.Reading.{Early, stopped, through, refused, accepted, judged, Reads, late}
 use Rattle.language.specs.declared.Text.{Text}
 use Rattle.language.specs.declared.Text.the-variants.{Actor as InActor}
 use Rattle.plan_of.specs.PlanOf.{planOf}
@@ -23,14 +23,10 @@ use Rattle.row09_bindings.specs.Lines.{Binds}
 use Rattle.row10_widths.specs.Row.{Passed, Asked}
 use Rattle.settled.specs.Settled.{settledOf}
 use Rattle.row13_plan.specs.Made.{tableAfter as tableWith}
-use Rattle.tipi.specs.declared.Answer.{Answer}
-use Rattle.tipi.specs.declared.Answer.the-variants.{Plan, Refused}
-use Rattle.tipi.specs.declared.rows.Verdict.{Verdict}
-use Rattle.tipi.specs.declared.rows.Verdict.the-variants.{Stopped, Through}
-
--- row 13: "plan longer than the lent table", at 0; else "Reading writes the plan at the table's start, gives its length and leaves the rest."
-unfoldable pub madeOf : List ℕ → List ℕ → Answer
-madeOf p table = elim (leb (length p) (length table)) [ true ↦ Plan (length p) | false ↦ Refused 13 InActor 0 ]
+use Rattle.plan_answer.specs.declared.Answer.{Answer}
+use Rattle.plan_answer.specs.declared.Answer.the-variants.{Plan, Refused}
+use Rattle.plan_answer.specs.Answered.{madeOf}
+use Rattle.early_rows.specs.Verdicts.{TextsHeld}
 
 unfoldable pub answerOf : Reading.Answer → List ℕ → Answer
 answerOf (refused n t p) table = Refused n t p
@@ -62,22 +58,22 @@ pub record After (e : Early) (r : Answer) (before after : List ℕ) : Type 0 whe
   pub follows : Follows e what
   pub told : Told what r before after
 
--- rows 6 to 9
-unfoldable pub verdictOf : Early → Verdict
-verdictOf (stopped n t p) = Stopped n t p
-verdictOf (through a b) = Through
-
--- a tape and a table that hold an actor and its bindings
-pub record TextsHeld (text t : List ℕ) (n : ℕ) (btext table : List ℕ) (k m : ℕ) (ws : List Word) (a : Actor) (b : Bindings) : Type 0 where
-  pub short : length text ≤ limits .actor
-  pub tells : Tells text t n ws a
-  pub binds : Binds btext table k m b
-
 -- with no fault of rows 6 to 9
 pub record Heard (text t : List ℕ) (n : ℕ) (btext table : List ℕ) (k m : ℕ) (ws : List Word) (a : Actor) (b : Bindings) : Type 0 where
   pub asked : Asked text t n btext table k m ws a b
   pub known : strangers a b ≡ []
   pub settled : unsettled a b ≡ []
+
+-- the answer is that of the actor and the bindings that they hold: of rows 6 to 13, of rows 10 to 13, and of rows 11 to 13 at these widths
+abbrev pub JudgedTold : (text t : List ℕ) (n : ℕ) (btext table : List ℕ) (k m : ℕ) → Answer → (before after : List ℕ) → Type 0
+JudgedTold text t n btext table k m r before after = (ws : List Word) (a : Actor) (b : Bindings) → TextsHeld text t n btext table k m ws a b → After (judged ws a b) r before after
+
+abbrev pub PlannedTold : (text t : List ℕ) (n : ℕ) (btext table : List ℕ) (k m : ℕ) → Answer → (before after : List ℕ) → Type 0
+PlannedTold text t n btext table k m r before after = (ws : List Word) (a : Actor) (b : Bindings) → Heard text t n btext table k m ws a b → After (through a b) r before after
+
+abbrev pub SizedTold : (text t : List ℕ) (n : ℕ) (btext table : List ℕ) (k m : ℕ) (widths : List ℕ) → Answer → (before after : List ℕ) → Type 0
+SizedTold text t n btext table k m widths r before after =
+    (ws : List Word) (a : Actor) (b : Bindings) → Heard text t n btext table k m ws a b → Least a b widths → Told (late a b (some widths)) r before after
 
 -- the first items of a table are those of a setting with no fault before row 11
 pub record Settled (items : List ℕ) (many : ℕ) (ws : List Word) (s : Setting) : Type 0 where
@@ -91,7 +87,3 @@ pub record Settled (items : List ℕ) (many : ℕ) (ws : List Word) (s : Setting
 -- rows 11 and 12
 abbrev pub lateOf : Setting → Reading.Answer
 lateOf s = late (s .actor) (s .bindings) (some (s .widths))
-
-unfoldable pub sums : List ℕ → ℕ
-sums [] = 0
-sums (n ∷ l) = n + sums l

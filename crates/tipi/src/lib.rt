@@ -4,14 +4,14 @@
 pub use cycle::cycle;
 pub use cycle::run;
 pub use lines::line;
+pub use plan_answer::Answer;
 
 mod plans;
-mod rows;
 
+use early_rows::Verdict;
+use early_rows::first;
 use language::Text;
 use plans::planned;
-use rows::Verdict;
-use rows::first;
 use syntax::Said;
 ghost use Rattle.tape.specs.Tape.{longest};
 ghost use mathlib.Core.List.{List};
@@ -21,16 +21,10 @@ ghost use Rattle.language.specs.Limits.{limits};
 ghost use Rattle.language.specs.Words.{Word};
 ghost use Rattle.language.specs.Tree.{Actor};
 ghost use Rattle.language.specs.Bindings.{Bindings};
-ghost use Rattle.language.specs.Reading.{judged as Reading·judged};
 ghost use Rattle.language.specs.Reading.{worded as Reading·worded};
 ghost use Rattle.row09_bindings.specs.Lines.{Binds};
-ghost use Rattle.tipi.specs.Told.{Read, After, TextsHeld};
-
-// The plan's length, or a refusal with its number, its text and its place.
-pub enum Answer {
-    Plan(u32),
-    Refused(u32, Text, u32),
-}
+ghost use Rattle.tipi.specs.Told.{Read, After, JudgedTold};
+ghost use Rattle.early_rows.specs.Verdicts.{TextsHeld};
 
 // Rows 6 to 13, of an actor that the grammar takes.
 fn judged(
@@ -45,7 +39,7 @@ fn judged(
 ) -> Answer
     requires { ⌜ (n ≤ length (now tape)) × (n ≤ longest) × (3 * (k + m) ≤ length (now table)) ⌝ }
     requires { ⌜ ((ws : List Word) × (a : Actor) × (b : Bindings) × TextsHeld (now text) (now tape) n (now btext) (now table) k m ws a b) ⌝ }
-    ensures { λ r. ⌜ ((ws : List Word) (a : Actor) (b : Bindings) → TextsHeld (now (text .entry)) (now (tape .entry)) n (now (btext .entry)) (now (table .entry)) k m ws a b → After (Reading·judged ws a b) r (now (plan .entry)) (now (plan .exit))) ⌝ }
+    ensures { λ r. ⌜ JudgedTold (now (text .entry)) (now (tape .entry)) n (now (btext .entry)) (now (table .entry)) k m r (now (plan .entry)) (now (plan .exit)) ⌝ }
 {
     match first(text, tape, n, btext, table, k, m) {
         Verdict::Stopped(row, which, place) => Answer::Refused(row, which, place),

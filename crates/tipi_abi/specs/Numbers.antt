@@ -6,8 +6,8 @@ use lib.ListN.{set}
 use Rattle.language.specs.declared.Text.{Text}
 use Rattle.language.specs.declared.Text.the-variants.{Actor, Bindings}
 use Rattle.tipi.specs.Told.{Read}
-use Rattle.tipi.specs.declared.Answer.{Answer}
-use Rattle.tipi.specs.declared.Answer.the-variants.{Plan, Refused}
+use Rattle.plan_answer.specs.declared.Answer.{Answer}
+use Rattle.plan_answer.specs.declared.Answer.the-variants.{Plan, Refused}
 
 -- the number of a refusal, or 0 for a plan
 unfoldable pub rowOf : Answer → ℕ

@@ -10,8 +10,8 @@ use lib.ListN.{length, getD, take, drop, set, length-append, drop-of-length-le}
 use lib.Seq.{sets, drop-cons}
 use Rattle.language.specs.Reading.{Answer}
 use Rattle.tipi.specs.Told.{answerOf}
-use Rattle.tipi.specs.declared.Answer.{Answer as Told}
-use Rattle.tipi.specs.declared.Answer.the-variants.{Plan, Refused}
+use Rattle.plan_answer.specs.declared.Answer.{Answer as Told}
+use Rattle.plan_answer.specs.declared.Answer.the-variants.{Plan, Refused}
 use Rattle.figures.specs.declared.Stage.{Stage}
 use Rattle.figures.specs.declared.Stage.the-variants.{ActorCount, Actor, BindingsCount, Bindings, CycleCount, Line, Through, Wrong, Stopped}
 use Rattle.figures.specs.declared.State.{State}

@@ -14,7 +14,8 @@ use Rattle.figures.specs.declared.Stage.{Stage}
 use Rattle.figures.specs.declared.State.{State}
 use Rattle.figures.specs.States.{startOf, wrongOf, grownOf, mostOf, takesOf, staysOf, longerOf}
 use Rattle.tipirun.specs.Reading.{countByte, keptOf}
-use Rattle.tipirun.specs.Lines.{portsOf, cellsOf, inputFrom, nextInput, maskAfter, valuesAfter}
+use Rattle.tipirun.specs.Lines.{cellsOf, inputFrom, nextInput, maskAfter, valuesAfter}
+use Rattle.cycle_line.specs.Shown.{portsOf}
 
 -- ---- counts
 
@@ -46,14 +47,6 @@ unfolding keptOf
 kept-out k n h = sym (simp (keptOf, le-ltb k n h))
 
 -- ---- ports
-
-pub ports-few : (p : List ℕ) (n : ℕ) → n ≡ portCount p → n < 16 → n ≡ portsOf p
-unfolding portsOf
-ports-few p n e h = omega arith
-
-pub ports-most : (p : List ℕ) (n : ℕ) → n ≡ portCount p → 16 ≤ n → 16 ≡ portsOf p
-unfolding portsOf
-ports-most p n e h = omega arith
 
 pub cells-as : (p : List ℕ) (m n r : ℕ) → m ≡ memoryCount p → n ≡ cellsBefore p m → r ≡ min n 256 → r ≡ cellsOf p
 unfolding cellsOf

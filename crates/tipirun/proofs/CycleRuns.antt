@@ -11,12 +11,13 @@ use Rattle.language.specs.Sizes.{Setting}
 use Rattle.language.specs.Meaning.{Given, Outcome, cycle, cellWidths}
 use Rattle.language.specs.Worked.{CycleRead, isBad, line, cycleLine, turn, cycles}
 use Rattle.plan_of.specs.PlanOf.{planOf}
-use Rattle.cycle.specs.Cycle.{cycleOf}
+use Rattle.turn.specs.Cycle.{cycleOf}
 use Rattle.figures.specs.declared.Stage.{Stage}
 use Rattle.figures.specs.declared.Stage.the-variants.{Line, Through}
 use Rattle.figures.specs.declared.State.{State}
 use Rattle.figures.specs.States.{startOf}
-use Rattle.tipirun.specs.Lines.{portsOf, cellsOf, shownOf, doneOf, outputsAfter, memoryAfter, turnedState, turnedOf}
+use Rattle.tipirun.specs.Lines.{cellsOf, doneOf, outputsAfter, memoryAfter, turnedState, turnedOf}
+use Rattle.cycle_line.specs.Shown.{portsOf, shownOf}
 use Rattle.tipirun.specs.Machine.{Machine, machine, stated, lined, passedBy, unwritten, endedAt, endedOf}
 use Rattle.tipirun.proofs.Stages.{over-line, same-plan}
 use Rattle.tipirun.proofs.Onward.{From, closed, through-closed}

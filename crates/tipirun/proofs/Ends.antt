@@ -9,14 +9,15 @@ use lib.Dec.{eqb, ltb}
 use lib.ListN.{length, getD, take, drop}
 use lib.Seq.{sets}
 use Rattle.language.specs.Meaning.{Outcome}
-use Rattle.cycle.specs.Cycle.{cycleOf}
-use Rattle.cycle.specs.Turn.{outcome}
+use Rattle.turn.specs.Cycle.{cycleOf}
+use Rattle.turn.specs.Turn.{outcome}
 use Rattle.figures.specs.declared.Stage.{Stage}
 use Rattle.figures.specs.declared.Stage.the-variants.{Line}
 use Rattle.figures.specs.declared.State.{State}
 use Rattle.figures.specs.States.{wrongOf, portOf, takesOf, staysOf, lineTakes, longerOf}
 use Rattle.figures.specs.Written.{Wrote}
-use Rattle.tipirun.specs.Lines.{portsOf, cellsOf, nextInput, shownOf, Lined, Left, maskAfter, valuesAfter, doneOf, outputsAfter, memoryAfter, turnedState, turnedOf, unturned, numberEnds, lineByte}
+use Rattle.tipirun.specs.Lines.{cellsOf, nextInput, Lined, Left, maskAfter, valuesAfter, doneOf, outputsAfter, memoryAfter, turnedState, turnedOf, unturned, numberEnds, lineByte}
+use Rattle.cycle_line.specs.Shown.{portsOf, shownOf}
 
 -- ---- digits of a line
 

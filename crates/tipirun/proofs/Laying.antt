@@ -18,14 +18,15 @@ use Rattle.plan.specs.Layout.{portCount, portAt, memoryCount, cellsBefore}
 use Rattle.plan.specs.Sound.{soundOf}
 use Rattle.plan_sections.proofs.Parts.{ports-few}
 use Rattle.judged.specs.Tests.{fitting, counts}
-use Rattle.cycle.specs.Cycle.{refusedBy, cycleOf}
+use Rattle.turn.specs.Cycle.{refusedBy, cycleOf}
 use Rattle.judged.proofs.Fired.{sound-sections}
-use Rattle.cycle.proofs.Outcomes.{counted, cycle-sound, cycle-22, cells-few}
+use Rattle.turn.proofs.Outcomes.{counted, cycle-sound, cycle-22, cells-few}
 use Rattle.plan_of.specs.PlanOf.{planOf}
 use Rattle.plan_of.specs.Theorems.{Planned}
 use Rattle.plan_of.proofs.Read.{reads-accepted}
 use Rattle.plan_of.proofs.Theorems.{reads-planned}
-use Rattle.tipirun.specs.Lines.{portsOf, cellsOf}
+use Rattle.tipirun.specs.Lines.{cellsOf}
+use Rattle.cycle_line.specs.Shown.{portsOf}
 use Rattle.tipirun.proofs.Signatures.{Kinds, no-port, a-port}
 
 -- the ports of a plan are those of the signature, inputs and outputs, and its cells those of the memories

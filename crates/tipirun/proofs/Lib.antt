@@ -1,5 +1,4 @@
 pub mod Counting
-pub mod Cycles
 pub mod Ends
 pub mod Stages
 pub mod Bytewise

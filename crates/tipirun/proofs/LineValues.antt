@@ -16,7 +16,8 @@ use Rattle.figures.specs.declared.Stage.{Stage}
 use Rattle.figures.specs.declared.Stage.the-variants.{Line}
 use Rattle.figures.specs.declared.State.{State}
 use Rattle.figures.specs.States.{wrongOf, grownOf, portOf, mostOf, lineTakes}
-use Rattle.tipirun.specs.Lines.{Lined, portsOf, inputFrom, nextInput, unturned, maskAfter, valuesAfter, turnedOf, numberEnds, lineByte}
+use Rattle.tipirun.specs.Lines.{Lined, inputFrom, nextInput, unturned, maskAfter, valuesAfter, turnedOf, numberEnds, lineByte}
+use Rattle.cycle_line.specs.Shown.{portsOf}
 use Rattle.tipirun.specs.Machine.{Machine, machine, stated, lined, movedAt, movedOf, passedBy, Judges, unwritten}
 use Rattle.figures.proofs.Counting.{most-mask, most-value}
 use Rattle.tipirun.proofs.Counting.{input-first, mask-new, mask-old, values-old, values-new}

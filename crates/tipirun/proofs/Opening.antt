@@ -15,9 +15,10 @@ use Rattle.language.specs.declared.Text.{Text}
 use Rattle.language.specs.declared.Text.the-variants.{Actor as InActor}
 use Rattle.language.specs.Worked.{isBad, line, Input, counted, inputOf, answered, Writes, writes-bad, writes}
 use Rattle.plan_of.specs.PlanOf.{planOf}
-use Rattle.tipi.specs.Told.{madeOf, answerOf, tableAfter}
-use Rattle.tipi.specs.declared.Answer.{Answer as Told}
-use Rattle.tipi.specs.declared.Answer.the-variants.{Plan, Refused}
+use Rattle.tipi.specs.Told.{answerOf, tableAfter}
+use Rattle.plan_answer.specs.Answered.{madeOf}
+use Rattle.plan_answer.specs.declared.Answer.{Answer as Told}
+use Rattle.plan_answer.specs.declared.Answer.the-variants.{Plan, Refused}
 use Rattle.figures.specs.declared.Stage.{Stage}
 use Rattle.figures.specs.declared.Stage.the-variants.{ActorCount, Actor, BindingsCount, Bindings, CycleCount, Line, Through, Wrong, Stopped}
 use Rattle.figures.specs.declared.State.{State}

@@ -15,7 +15,7 @@ use Rattle.language.specs.Meaning.{Outcome}
 use Rattle.language.specs.Names.{inputNames}
 use Rattle.language.specs.Tree.{Actor}
 use Rattle.plan.specs.Layout.{portAt}
-use Rattle.tipirun.specs.Lines.{portsOf, outputsFrom, shownOf}
+use Rattle.cycle_line.specs.Shown.{portsOf, outputsFrom, shownOf}
 use Rattle.tipirun.proofs.LineValues.{valuesFrom, planTurn}
 
 -- one port after the other

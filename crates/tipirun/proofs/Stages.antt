@@ -18,8 +18,8 @@ use Rattle.figures.specs.declared.State.{State}
 use Rattle.figures.specs.States.{startOf}
 use Rattle.tipirun.specs.Reading.{countByte, keptOf, actorByte, bindingsByte, plannedOf, judgedOf, Judged}
 use Rattle.tipi.specs.Told.{answerOf, tableAfter, Read}
-use Rattle.tipi.specs.declared.Answer.{Answer as Told}
-use Rattle.tipi.specs.declared.Answer.the-variants.{Plan, Refused}
+use Rattle.plan_answer.specs.declared.Answer.{Answer as Told}
+use Rattle.plan_answer.specs.declared.Answer.the-variants.{Plan, Refused}
 use Rattle.tipirun.specs.Lines.{cellsOf}
 use Rattle.tipirun.specs.Machine.{Machine, passedAt, passedOf, whole, atBindings, planPassed, Judges, StagePassed, endedAt, endedOf}
 

@@ -22,7 +22,8 @@ use Rattle.tipi.specs.Told.{tableAfter}
 use Rattle.tipi.proofs.Theorems.{reads-once}
 use Rattle.figures.specs.declared.Stage.the-variants.{Line}
 use Rattle.figures.specs.States.{startOf}
-use Rattle.tipirun.specs.Lines.{portsOf, cellsOf}
+use Rattle.tipirun.specs.Lines.{cellsOf}
+use Rattle.cycle_line.specs.Shown.{portsOf}
 use Rattle.tipirun.specs.Machine.{Machine, Prints}
 use Rattle.tipirun.specs.Statement.{HasRoom, Worked, as-01, row-13}
 use Rattle.tipirun.proofs.CountLines.{lineEnd}

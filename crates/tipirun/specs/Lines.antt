@@ -10,33 +10,14 @@ use Rattle.language.specs.Limits.{limits}
 use Rattle.language.specs.Meaning.{Outcome}
 use Rattle.language.specs.Worked.{decimal, line}
 use Rattle.plan.specs.Layout.{portCount, portAt, memoryCount, cellsBefore}
-use Rattle.cycle.specs.Cycle.{cycleOf}
-use Rattle.figures.specs.Written.{numberBytes}
+use Rattle.turn.specs.Cycle.{cycleOf}
+use Rattle.cycle_line.specs.Shown.{lineBytes, portsOf, shownOf}
 use Rattle.figures.specs.declared.Stage.{Stage}
 use Rattle.figures.specs.declared.Stage.the-variants.{Line}
 use Rattle.figures.specs.declared.State.{State}
 use Rattle.figures.specs.States.{wrongOf, portOf, lineTakes, longerOf}
 
--- ---- the most bytes that are written: a number of 64 bits has 20 digits, and a blank or a line end stands beside it
-
--- the outputs of a cycle, and its line: its answer and the number of its present ports too
-abbrev pub outputsBytes : ℕ
-outputsBytes = 336
-
-abbrev pub lineBytes : ℕ
-lineBytes = 378
-
--- all cells on a line
-abbrev pub cellsBytes : ℕ
-cellsBytes = 5_377
-
-pub sizes : (outputsBytes ≡ limits .ports * numberBytes) × (lineBytes ≡ 2 * numberBytes + outputsBytes) × (cellsBytes ≡ limits .cells * numberBytes + 1)
-sizes = (refl, refl, refl)
-
--- the ports and cells of a plan, as far as the tables go
-unfoldable pub portsOf : List ℕ → ℕ
-portsOf p = min (portCount p) (limits .ports)
-
+-- the cells of a plan, as far as the table goes
 unfoldable pub cellsOf : List ℕ → ℕ
 cellsOf p = min (cellsBefore p (memoryCount p)) (limits .cells)
 
@@ -47,19 +28,6 @@ inputFrom p (suc k) i = elim (ltb (portAt p i) 256) [ true ↦ i | false ↦ inp
 
 unfoldable pub nextInput : List ℕ → ℕ → ℕ
 nextInput p i = inputFrom p (portsOf p - i) i
-
--- a port's value as it is written, after a blank, if it is an output
-unfoldable pub outputOf : ℕ → ℕ → List ℕ
-outputOf kind v = elim (ltb kind 256) [ true ↦ [] | false ↦ 32 ∷ decimal v ]
-
--- the outputs among k ports from i on
-unfoldable pub outputsFrom : List ℕ → List ℕ → ℕ → ℕ → List ℕ
-outputsFrom p o zero i = []
-outputsFrom p o (suc k) i = elim (ltb (portAt p i) 256) [ true ↦ outputsFrom p o k (i + 1) | false ↦ getD o i 0 ∷ outputsFrom p o k (i + 1) ]
-
--- "answer, present ports and outputs for each cycle, the answer alone if refused"
-unfoldable pub shownOf : List ℕ → ℕ → ℕ → List ℕ → List ℕ
-shownOf p answer count o = elim (eqb answer 0) [ true ↦ line (answer ∷ count ∷ outputsFrom p o (portsOf p) 0) | false ↦ line (answer ∷ []) ]
 
 -- what a byte of a line leaves: the state, the tables, and what is written
 pub record Lined : Type 0 where

@@ -15,7 +15,8 @@ use Rattle.figures.specs.declared.Stage.the-variants.{ActorCount, Actor, Bindin
 use Rattle.figures.specs.declared.State.{State}
 use Rattle.figures.specs.States.{startOf, beginOf}
 use Rattle.tipirun.specs.Reading.{countByte, actorByte, bindingsByte, judgedOf}
-use Rattle.tipirun.specs.Lines.{lineBytes, Lined, lineByte, cellsOf}
+use Rattle.tipirun.specs.Lines.{Lined, lineByte, cellsOf}
+use Rattle.cycle_line.specs.Shown.{lineBytes}
 
 -- the state with its tables, and what a byte made it write
 pub record Machine : Type 0 where

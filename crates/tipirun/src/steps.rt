@@ -3,7 +3,8 @@ ghost use mathlib.Core.Path.{_≡_};
 ghost use mathlib.Core.List.{[]};
 ghost use Prim.Native.Nat.{_+_, _*_, _≤_};
 ghost use lib.ListN.{length};
-ghost use Rattle.tipirun.specs.Lines.{Roomy, lineBytes};
+ghost use Rattle.tipirun.specs.Lines.{Roomy};
+ghost use Rattle.cycle_line.specs.Shown.{lineBytes};
 ghost use Rattle.tipirun.specs.Machine.{machine, movedOf, TablesStand, Steps, Feeds};
 use crate::texts::actor_byte;
 use crate::texts::bindings_byte;
@@ -26,7 +27,9 @@ fn moved(
     out: &mut [u8],
 ) -> State
     requires { ⌜ Roomy (now values) (now outputs) (now memory) (now out) (s .at) ⌝ }
-    ensures { λ r. ⌜ TablesStand (movedOf (machine s (now (actor .entry)) (now (bindings .entry)) (now (plan .entry)) (now (values .entry)) (now (outputs .entry)) (now (memory .entry)) []) b) (now (out .entry)) (s .at) lineBytes r (now (actor .exit)) (now (bindings .exit)) (now (plan .entry)) (now (values .exit)) (now (outputs .exit)) (now (memory .exit)) (now (out .exit)) ⌝ }
+    ensures { λ r. ⌜ TablesStand
+        (movedOf (machine s (now (actor .entry)) (now (bindings .entry)) (now (plan .entry)) (now (values .entry)) (now (outputs .entry)) (now (memory .entry)) []) b)
+        (now (out .entry)) (s .at) lineBytes r (now (actor .exit)) (now (bindings .exit)) (now (plan .entry)) (now (values .exit)) (now (outputs .exit)) (now (memory .exit)) (now (out .exit)) ⌝ }
 {
     let stage = s.stage;
     match stage {
@@ -55,7 +58,9 @@ pub fn step(
     out: &mut [u8],
 ) -> State
     requires { ⌜ Roomy (now values) (now outputs) (now memory) (now out) (s .at) ⌝ }
-    ensures { λ r. ⌜ Steps (machine s (now (actor .entry)) (now (bindings .entry)) (now (plan .entry)) (now (values .entry)) (now (outputs .entry)) (now (memory .entry)) []) b (now (out .entry)) (s .at) r (now (actor .exit)) (now (bindings .exit)) (now (plan .exit)) (now (values .exit)) (now (outputs .exit)) (now (memory .exit)) (now (out .exit)) ⌝ }
+    ensures { λ r. ⌜ Steps
+        (machine s (now (actor .entry)) (now (bindings .entry)) (now (plan .entry)) (now (values .entry)) (now (outputs .entry)) (now (memory .entry)) []) b
+        (now (out .entry)) (s .at) r (now (actor .exit)) (now (bindings .exit)) (now (plan .exit)) (now (values .exit)) (now (outputs .exit)) (now (memory .exit)) (now (out .exit)) ⌝ }
 {
     let t = moved(s, b, actor, bindings, plan, values, outputs, memory, out);
     passed(t, actor, bindings, plan)
@@ -74,7 +79,9 @@ pub fn feed(
     out: &mut [u8],
 ) -> State
     requires { ⌜ Roomy (now values) (now outputs) (now memory) (now out) (s .at + lineBytes * length (now bytes)) ⌝ }
-    ensures { λ r. ⌜ Feeds (machine s (now (actor .entry)) (now (bindings .entry)) (now (plan .entry)) (now (values .entry)) (now (outputs .entry)) (now (memory .entry)) []) (now (bytes .entry)) (now (out .entry)) (s .at) r (now (actor .exit)) (now (bindings .exit)) (now (plan .exit)) (now (values .exit)) (now (outputs .exit)) (now (memory .exit)) (now (out .exit)) ⌝ }
+    ensures { λ r. ⌜ Feeds
+        (machine s (now (actor .entry)) (now (bindings .entry)) (now (plan .entry)) (now (values .entry)) (now (outputs .entry)) (now (memory .entry)) []) (now (bytes .entry))
+        (now (out .entry)) (s .at) r (now (actor .exit)) (now (bindings .exit)) (now (plan .exit)) (now (values .exit)) (now (outputs .exit)) (now (memory .exit)) (now (out .exit)) ⌝ }
 {
     let mut t = s;
     let mut i = 0;

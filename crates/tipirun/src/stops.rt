@@ -3,7 +3,7 @@ ghost use mathlib.Core.Path.{_≡_};
 ghost use mathlib.Core.List.{[], _∷_};
 ghost use Prim.Native.Nat.{_+_, _*_, _≤_};
 ghost use lib.ListN.{length, drop};
-ghost use Rattle.tipirun.specs.Lines.{cellsBytes};
+ghost use Rattle.cycle_line.specs.Shown.{cellsBytes};
 ghost use Rattle.figures.specs.Written.{numberBytes};
 ghost use Rattle.language.specs.Limits.{limits};
 ghost use Rattle.language.specs.Worked.{line, isBad};

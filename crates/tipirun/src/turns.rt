@@ -3,40 +3,25 @@ ghost use mathlib.Core.Path.{_≡_};
 ghost use Prim.Native.Nat.{_+_, _*_, _≤_};
 ghost use lib.ListN.{length};
 ghost use Rattle.language.specs.Limits.{limits};
-ghost use Rattle.figures.specs.Written.{Wrote, blanked};
-ghost use Rattle.tipirun.specs.Lines.{portsOf, cellsOf, nextInput, outputOf, outputsFrom, shownOf, maskAfter, valuesAfter, turnedOf, numberEnds, lineByte, Left, Roomy, lineBytes, outputsBytes};
-ghost use Rattle.figures.specs.Written.{numberBytes};
+ghost use Rattle.tipirun.specs.Lines.{cellsOf, nextInput, maskAfter, valuesAfter, turnedOf, numberEnds, lineByte, Left, Roomy};
+use cycle_line::ports;
+use cycle_line::show;
 use figures::Stage;
 use figures::State;
 use figures::at_port;
 use figures::least;
 use figures::less;
 use figures::longer;
-use figures::next_number;
-use figures::number;
-use figures::put;
 use figures::takes_in_line;
-use figures::wide;
 use figures::wrong;
 use plan::cells_before;
 use plan::memory_count;
 use plan::place;
 use plan::port_at;
-use plan::port_count;
 
 const OUTPUT: u32 = plan::OUTPUT;
 
-const PORTS: u32 = language::Plan::PORTS;
-
 const CELLS: usize = language::Plan::CELLS as usize;
-
-// The ports of the plan, as many as the table has room for.
-fn ports(plan: &[u32]) -> u32
-    ensures { λ r. ⌜ (r ≡ portsOf (now (plan .entry))) × (r ≤ limits .ports) ⌝ }
-{
-    let n = port_count(plan);
-    if n < PORTS { n } else { PORTS }
-}
 
 // The cells of the plan, as many as the table has room for.
 pub fn cells(plan: &[u32]) -> usize
@@ -60,53 +45,6 @@ fn next_input(plan: &[u32], from: u32) -> u32
     i
 }
 
-// A port's value after a blank, if it is an output.
-fn show_output(kind: u32, value: u64, out: &mut [u8], at: usize) -> usize
-    requires { ⌜ at + numberBytes ≤ length (now out) ⌝ }
-    ensures { λ r. ⌜ Wrote (now (out .entry)) at (outputOf kind value) numberBytes r (now (out .exit)) ⌝ }
-{
-    if kind < OUTPUT {
-        return at;
-    }
-    next_number(out, at, value)
-}
-
-// The outputs, each after a blank.
-fn show_outputs(plan: &[u32], outputs: &[u64], out: &mut [u8], at: usize) -> usize
-    requires { ⌜ (limits .ports ≤ length (now outputs)) × (at + outputsBytes ≤ length (now out)) ⌝ }
-    ensures { λ r. ⌜ Wrote (now (out .entry)) at (blanked (outputsFrom (now (plan .entry)) (now (outputs .entry)) (portsOf (now (plan .entry))) 0)) outputsBytes r (now (out .exit)) ⌝ }
-{
-    let n = ports(plan);
-    let mut k = at;
-    let mut i = 0;
-    while i < n {
-        k = show_output(port_at(plan, i), outputs[place(i)], out, k);
-        i += 1;
-    }
-    k
-}
-
-// The line of a cycle: its answer; if that is 0 the number of present ports and the outputs too.
-fn show(
-    plan: &[u32],
-    answer: u32,
-    present: u32,
-    outputs: &[u64],
-    out: &mut [u8],
-    at: usize,
-) -> usize
-    requires { ⌜ (limits .ports ≤ length (now outputs)) × (at + lineBytes ≤ length (now out)) ⌝ }
-    ensures { λ r. ⌜ Wrote (now (out .entry)) at (shownOf (now (plan .entry)) answer present (now (outputs .entry))) lineBytes r (now (out .exit)) ⌝ }
-{
-    let k = number(out, at, wide(answer));
-    if answer != 0 {
-        return put(out, k, 10);
-    }
-    let m = next_number(out, k, wide(present));
-    let e = show_outputs(plan, outputs, out, m);
-    put(out, e, 10)
-}
-
 // The line is whole: the cycle is run, and its line written.
 fn turned(
     s: State,
@@ -118,7 +56,8 @@ fn turned(
     out: &mut [u8],
 ) -> State
     requires { ⌜ Roomy (now values) (now outputs) (now memory) (now out) (s .at) ⌝ }
-    ensures { λ r. ⌜ Left (turnedOf s mask (now (plan .entry)) (now (values .entry)) (now (outputs .entry)) (now (memory .entry))) (now (out .entry)) (s .at) r (now (values .entry)) (now (outputs .exit)) (now (memory .exit)) (now (out .exit)) ⌝ }
+    ensures { λ r. ⌜ Left (turnedOf s mask (now (plan .entry)) (now (values .entry)) (now (outputs .entry)) (now (memory .entry)))
+        (now (out .entry)) (s .at) r (now (values .entry)) (now (outputs .exit)) (now (memory .exit)) (now (out .exit)) ⌝ }
 {
     let n = place(ports(plan));
     let m = cells(plan);
@@ -169,7 +108,8 @@ fn number_ends(
     out: &mut [u8],
 ) -> State
     requires { ⌜ Roomy (now values) (now outputs) (now memory) (now out) (s .at) ⌝ }
-    ensures { λ r. ⌜ Left (numberEnds s b (now (plan .entry)) (now (values .entry)) (now (outputs .entry)) (now (memory .entry))) (now (out .entry)) (s .at) r (now (values .exit)) (now (outputs .exit)) (now (memory .exit)) (now (out .exit)) ⌝ }
+    ensures { λ r. ⌜ Left (numberEnds s b (now (plan .entry)) (now (values .entry)) (now (outputs .entry)) (now (memory .entry)))
+        (now (out .entry)) (s .at) r (now (values .exit)) (now (outputs .exit)) (now (memory .exit)) (now (out .exit)) ⌝ }
 {
     let i = next_input(plan, s.port);
     if i < ports(plan) {
@@ -197,7 +137,8 @@ pub fn line_byte(
     out: &mut [u8],
 ) -> State
     requires { ⌜ Roomy (now values) (now outputs) (now memory) (now out) (s .at) ⌝ }
-    ensures { λ r. ⌜ Left (lineByte s b (now (plan .entry)) (now (values .entry)) (now (outputs .entry)) (now (memory .entry))) (now (out .entry)) (s .at) r (now (values .exit)) (now (outputs .exit)) (now (memory .exit)) (now (out .exit)) ⌝ }
+    ensures { λ r. ⌜ Left (lineByte s b (now (plan .entry)) (now (values .entry)) (now (outputs .entry)) (now (memory .entry)))
+        (now (out .entry)) (s .at) r (now (values .exit)) (now (outputs .exit)) (now (memory .exit)) (now (out .exit)) ⌝ }
 {
     if takes_in_line(s, b) {
         return longer(s, b);

@@ -11,7 +11,8 @@ use Rattle.language.specs.Words.{Word}
 use Rattle.language.specs.Tree.{Ty, number, environment, port, plus, minus, log, ceil, floor, most, entry, within, Declared, untyped}
 use Rattle.language.specs.Reader.{Res, ok, bad, dry, bind, on, is, isNum, isName, isThe, expect, until}
 use Rattle.language.specs.Parser.{typeP, typeL, termP, entryL, declaredP}
-use Rattle.words.specs.Table.{spelledWords, wordOf}
+use Rattle.signs.specs.Kinds.{spelledWords}
+use Rattle.words.specs.Table.{wordOf}
 use Rattle.tape.specs.Tape.{flatT, item}
 use Rattle.readers.specs.Marks.{kindAt, placeAt, numeralAt, nameAt, Marked, theType}
 use Rattle.readers.proofs.Spells.{word, on-miss, on-is, off-is, num-miss, name-miss, on-type, off-type}

@@ -9,7 +9,8 @@ use Rattle.language.specs.Tree.{Ty, Breadth, bits, given, value, Expr, plain, s
 use Rattle.language.specs.Grammar.{prefixes, prefixIn}
 use Rattle.language.specs.Reader.{ok, bad, bind, on, is, isNum, isName, isDigits, expect, until}
 use Rattle.language.specs.Parser.{typeP, partP, amountP, exprP, operandP, numberP, isPrefix, prefixAt}
-use Rattle.words.specs.Table.{spelledWords, wordOf}
+use Rattle.signs.specs.Kinds.{spelledWords}
+use Rattle.words.specs.Table.{wordOf}
 use Rattle.readers.specs.Marks.{kindAt, placeAt, longAt, numeralAt, nameAt, Marked}
 use Rattle.type_reader.specs.Types.{positionsP, Valued}
 use Rattle.readers.proofs.Spells.{word, on-miss, on-is, off-is, expect-at, expect-bad, name-miss, digits-miss}

@@ -7,6 +7,7 @@ use readers::closed;
 use readers::kind;
 use readers::put;
 use readers::value;
+use signs::kinds;
 use tape::BIT;
 use tape::BITS;
 use tape::GIVEN;
@@ -14,9 +15,9 @@ use tape::PLAIN;
 use tape::RANGE;
 use tape::TYPED;
 use tape::VALUE;
-use words::kinds;
 ghost use mathlib.Core.Path.{_≡_};
 ghost use Prim.Native.Nat.{_+_};
+ghost use Rattle.signs.specs.Kinds.{braceKind, lessKind, numberKind};
 ghost use Rattle.readers.specs.Marks.{kindAt};
 ghost use Rattle.readers.specs.Meets.{Room, Starts};
 ghost use Rattle.type_reader.specs.Types.{Shuts, Valued, IsOperand, IsPart, IsAmount, IsPositions};
@@ -45,8 +46,8 @@ fn amount(words: &Table, tape: &mut Tape, at: usize, n: usize) -> Out
 
 // A number that is no count of copies: the width of a constant, or a constant itself.
 pub fn constant(words: &Table, tape: &mut Tape, at: usize, n: usize) -> Out
-    requires { ⌜ Starts (now words) at n 1 ⌝ }
-    requires { ⌜ (kindAt (now words) (at + 1) ≡ 38 → ⊥) ⌝ }
+    requires { ⌜ Starts (now words) at n numberKind ⌝ }
+    requires { ⌜ (kindAt (now words) (at + 1) ≡ braceKind → ⊥) ⌝ }
     ensures { λ r. ⌜ IsOperand (now (words .entry)) at n (now (tape .entry)) r (now (tape .exit)) ⌝ }
 {
     let k = kind(words, at + 1);
@@ -63,7 +64,7 @@ pub fn constant(words: &Table, tape: &mut Tape, at: usize, n: usize) -> Out
 
 // A width, and what it holds.
 fn width(words: &Table, tape: &mut Tape, at: usize, n: usize) -> Out
-    requires { ⌜ Starts (now words) at n 1 ⌝ }
+    requires { ⌜ Starts (now words) at n numberKind ⌝ }
     requires { ⌜ Valued (now words) (at + 1) ⌝ }
     ensures { λ r. ⌜ IsOperand (now (words .entry)) at n (now (tape .entry)) r (now (tape .exit)) ⌝ }
 {
@@ -74,7 +75,7 @@ fn width(words: &Table, tape: &mut Tape, at: usize, n: usize) -> Out
 
 // A constant whose width is a type in `< >`.
 pub fn typed(words: &Table, tape: &mut Tape, at: usize, n: usize) -> Out
-    requires { ⌜ Starts (now words) at n 48 ⌝ }
+    requires { ⌜ Starts (now words) at n lessKind ⌝ }
     ensures { λ r. ⌜ IsOperand (now (words .entry)) at n (now (tape .entry)) r (now (tape .exit)) ⌝ }
 {
     let o = typ(words, tape, at + 1, n);

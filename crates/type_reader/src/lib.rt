@@ -16,6 +16,7 @@ use readers::put;
 use readers::sum;
 use readers::the_type;
 use readers::value;
+use signs::kinds;
 use tape::CEIL;
 use tape::ENTRY;
 use tape::ENVIRONMENT;
@@ -25,8 +26,9 @@ use tape::MOST;
 use tape::NUMBER;
 use tape::PORT;
 use tape::WITHIN;
-use words::kinds;
-ghost use Prim.Native.Nat.{_+_, _≤_};
+ghost use Prim.Native.Nat.{_+_, _-_, _≤_};
+ghost use Rattle.tape.specs.Tape.{LOG, FLOOR};
+ghost use Rattle.signs.specs.Kinds.{logKind, maxKind, nameKind, numberKind, openKind};
 ghost use Rattle.readers.specs.Meets.{Room, Starts};
 ghost use Rattle.type_reader.specs.Types.{IsType, IsTerm, IsSums, IsEntries};
 
@@ -81,7 +83,7 @@ fn term(words: &Table, tape: &mut Tape, at: usize, n: usize) -> Out
 }
 
 fn number(words: &Table, tape: &mut Tape, at: usize, n: usize) -> Out
-    requires { ⌜ Starts (now words) at n 1 ⌝ }
+    requires { ⌜ Starts (now words) at n numberKind ⌝ }
     ensures { λ r. ⌜ IsTerm (now (words .entry)) at n (now (tape .entry)) r (now (tape .exit)) ⌝ }
 {
     let v = value(words, at);
@@ -91,7 +93,7 @@ fn number(words: &Table, tape: &mut Tape, at: usize, n: usize) -> Out
 
 // An environment name, or a port's with `.type` after it.
 fn environment(words: &Table, tape: &mut Tape, at: usize, n: usize) -> Out
-    requires { ⌜ Starts (now words) at n 2 ⌝ }
+    requires { ⌜ Starts (now words) at n nameKind ⌝ }
     ensures { λ r. ⌜ IsTerm (now (words .entry)) at n (now (tape .entry)) r (now (tape .exit)) ⌝ }
 {
     let dot = kind(words, at + 1);
@@ -110,9 +112,9 @@ fn environment(words: &Table, tape: &mut Tape, at: usize, n: usize) -> Out
 
 // `log`, `ceil` or `floor` of a type.
 fn function(words: &Table, tape: &mut Tape, at: usize, n: usize, op: u32) -> Out
-    requires { ⌜ Starts (now words) at n (op + 13) ⌝ }
-    requires { ⌜ 6 ≤ op ⌝ }
-    requires { ⌜ op ≤ 8 ⌝ }
+    requires { ⌜ Starts (now words) at n (op + (logKind - LOG)) ⌝ }
+    requires { ⌜ LOG ≤ op ⌝ }
+    requires { ⌜ op ≤ FLOOR ⌝ }
     ensures { λ r. ⌜ IsTerm (now (words .entry)) at n (now (tape .entry)) r (now (tape .exit)) ⌝ }
 {
     let k = kind(words, at + 1);
@@ -131,7 +133,7 @@ fn function(words: &Table, tape: &mut Tape, at: usize, n: usize, op: u32) -> Out
 
 // `max` of its entries.
 fn most(words: &Table, tape: &mut Tape, at: usize, n: usize) -> Out
-    requires { ⌜ Starts (now words) at n 18 ⌝ }
+    requires { ⌜ Starts (now words) at n maxKind ⌝ }
     ensures { λ r. ⌜ IsTerm (now (words .entry)) at n (now (tape .entry)) r (now (tape .exit)) ⌝ }
 {
     let k = kind(words, at + 1);
@@ -177,7 +179,7 @@ fn entries(words: &Table, tape: &mut Tape, at: usize, n: usize) -> Out
 
 // A type in parentheses.
 fn within(words: &Table, tape: &mut Tape, at: usize, n: usize) -> Out
-    requires { ⌜ Starts (now words) at n 36 ⌝ }
+    requires { ⌜ Starts (now words) at n openKind ⌝ }
     ensures { λ r. ⌜ IsTerm (now (words .entry)) at n (now (tape .entry)) r (now (tape .exit)) ⌝ }
 {
     let o = typ(words, tape, at + 1, n);

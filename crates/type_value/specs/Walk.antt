@@ -5,10 +5,12 @@ use mathlib.Core.List.{List, [], _∷_}
 use Prim.Native.Nat.{ℕ, zero, suc, _+_, _-_, _*_, _/_, _%_, _^_, _≤_, _<_}
 use lib.Dec.{eqb, ltb}
 use lib.ListN.{length, getD, take, drop, set}
+use Rattle.language.specs.Limits.{limits}
 use Rattle.language.specs.declared.Exact.{Exact}
 use Rattle.exact.specs.Room.{Space, Room}
 use Rattle.language.specs.Types.{wholeOf, logOf, plusOf, minusOf, greaterOf, floorOf, ceilOf, widthOf}
 use Rattle.type_value.specs.Terms.{Term, code, TypeOf, Small}
+use Rattle.exact_room.specs.Tests.{hasSpace, hasRoom}
 
 -- the part of a list from one index to another
 abbrev pub part : List ℕ → ℕ → ℕ → List ℕ
@@ -65,31 +67,11 @@ walk ws (k ∷ ks) st = walk ws ks (turn ws k st)
 
 -- the node k finds what it needs among the values that wait, and its value has a place
 pub data Ready (ws : List ℕ) (k : ℕ) (st : List Exact) : Type 0 where
-  leaf : k % 8 < 2 → (k % 8 ≡ 1 → k / 8 < length ws) → length st < 64 → Ready ws k st
+  leaf : k % 8 < 2 → (k % 8 ≡ 1 → k / 8 < length ws) → length st < limits .typeWords → Ready ws k st
   unary : (x : Exact) (r : List Exact) → st ≡ x ∷ r → 2 ≤ k % 8 → k % 8 < 5 → Space x → Ready ws k st
   binary : (x y : Exact) (r : List Exact) → st ≡ y ∷ (x ∷ r) → 5 ≤ k % 8 → Room x y → Ready ws k st
 
 -- ---- the same as tests, and the value of any code
-
--- a number of 64 bits
-unfoldable pub fits : ℕ → Bool
-fits n = ltb n (2 ^ 64)
-
--- `Space` as a test
-unfoldable pub hasSpace : Exact → Bool
-hasSpace x = ltb 0 (x .a) && ltb 0 (x .b) && fits (x .up + 64) && fits (x .down + 64)
-
--- the sums of `Room`
-unfoldable pub sumsFit : Exact → Exact → Bool
-sumsFit x y = fits (x .up + y .up) && fits (x .down + y .down) && fits (x .up + y .down) && fits (x .down + y .up)
-
--- the products of `Room`
-unfoldable pub productsFit : Exact → Exact → Bool
-productsFit x y = fits (x .a * y .a) && fits (x .b * y .b) && fits (x .a * y .b) && fits (x .b * y .a)
-
--- `Room` as a test
-unfoldable pub hasRoom : Exact → Exact → Bool
-hasRoom x y = sumsFit x y && productsFit x y
 
 -- a value waits, and floor and ceil take it
 unfoldable pub lastHasSpace : List Exact → Bool
@@ -106,7 +88,7 @@ lastTwoHaveRoom (y ∷ (x ∷ r)) = hasRoom x y
 unfoldable pub isReady : List ℕ → ℕ → List Exact → Bool
 isReady ws k st =
     elim (ltb (k % 8) 2) [
-      | true ↦ ltb (length st) 64 && (eqb (k % 8) 0 || ltb (k / 8) (length ws))
+      | true ↦ ltb (length st) (limits .typeWords) && (eqb (k % 8) 0 || ltb (k / 8) (length ws))
       | false ↦ elim (ltb (k % 8) 5) [ true ↦ lastHasSpace st | false ↦ lastTwoHaveRoom st ]
     ]
 
@@ -143,5 +125,5 @@ waiting l (suc n) = exactAt l n ∷ waiting l n
 -- a node's turn in cells: n values wait in l, and then r in m
 pub record Turned (ws : List ℕ) (k : ℕ) (l : List ℕ) (n : ℕ) (m : List ℕ) (r : ℕ) : Type 0 where
   pub now-wait : waiting m r ≡ turn ws k (waiting l n)
-  pub few : r ≤ 64
-  pub long : length m ≡ 256
+  pub few : r ≤ limits .typeWords
+  pub long : length m ≡ 4 * limits .typeWords

@@ -11,17 +11,18 @@ use exact::number;
 use exact::plus;
 use exact::position_of;
 use exact::width_of;
+use exact_room::has_room;
+use exact_room::has_space;
 use language::Exact;
 ghost use mathlib.Core.Path.{_≡_};
 ghost use Prim.Native.Nat.{_+_, _*_, _/_, _%_, _≤_, _<_};
 ghost use lib.ListN.{length};
+ghost use Rattle.language.specs.Limits.{limits};
 ghost use Rattle.language.specs.Types.{widthOf, positionOf};
 ghost use Rattle.exact.specs.Room.{Space, Room, positioned};
 ghost use Rattle.type_value.specs.Terms.{valueAt};
-ghost use Rattle.type_value.specs.Walk.{part, EachType, leafOf, unaryOf, binaryOf, Ready, fits, hasSpace, sumsFit, productsFit, hasRoom, lastHasSpace, lastTwoHaveRoom, isReady, alone, valueOf, exactAt, stored, waiting, Turned};
-
-// The most that a number of 64 bits is.
-const MOST: u64 = 18446744073709551615;
+ghost use Rattle.type_value.specs.Walk.{part, EachType, leafOf, unaryOf, binaryOf, Ready, lastHasSpace, lastTwoHaveRoom, isReady, alone, valueOf, exactAt, stored, waiting, Turned};
+ghost use Rattle.exact_room.specs.Tests.{fits, hasSpace, sumsFit, productsFit, hasRoom};
 
 // Four numbers for each type that waits, of which there are as many as a type has words at most.
 const CELLS: usize = 4 * language::Type::WORDS as usize;
@@ -64,7 +65,7 @@ fn binary(op: u32, x: Exact, y: Exact) -> Exact
 }
 
 fn taken(cells: &[u64; CELLS], k: usize) -> Exact
-    requires { ⌜ k < 64 ⌝ }
+    requires { ⌜ k < limits .typeWords ⌝ }
     ensures { λ r. ⌜ r ≡ exactAt (now (cells .entry)) k ⌝ }
 {
     Exact {
@@ -76,7 +77,7 @@ fn taken(cells: &[u64; CELLS], k: usize) -> Exact
 }
 
 fn put(cells: &mut [u64; CELLS], k: usize, x: Exact) -> usize
-    requires { ⌜ k < 64 ⌝ }
+    requires { ⌜ k < limits .typeWords ⌝ }
     ensures { λ r. ⌜ (r ≡ k + 1) × (now (cells .exit) ≡ stored (now (cells .entry)) k x) ⌝ }
 {
     cells[k * 4] = x.up;
@@ -86,54 +87,8 @@ fn put(cells: &mut [u64; CELLS], k: usize, x: Exact) -> usize
     k + 1
 }
 
-fn sum_fits(a: u64, b: u64) -> bool
-    ensures { λ r. ⌜ r ≡ fits (a + b) ⌝ }
-{
-    a <= MOST - b
-}
-
-// By division: the product itself may not fit.
-fn product_fits(a: u64, b: u64) -> bool
-    ensures { λ r. ⌜ r ≡ fits (a * b) ⌝ }
-{
-    if b == 0 {
-        return true;
-    }
-    a <= MOST / b
-}
-
-fn has_space(x: Exact) -> bool
-    ensures { λ r. ⌜ r ≡ hasSpace x ⌝ }
-{
-    (0 < x.a) & (0 < x.b) & sum_fits(x.up, 64) & sum_fits(x.down, 64)
-}
-
-fn sums_fit(x: Exact, y: Exact) -> bool
-    ensures { λ r. ⌜ r ≡ sumsFit x y ⌝ }
-{
-    sum_fits(x.up, y.up)
-        & sum_fits(x.down, y.down)
-        & sum_fits(x.up, y.down)
-        & sum_fits(x.down, y.up)
-}
-
-fn products_fit(x: Exact, y: Exact) -> bool
-    ensures { λ r. ⌜ r ≡ productsFit x y ⌝ }
-{
-    product_fits(x.a, y.a)
-        & product_fits(x.b, y.b)
-        & product_fits(x.a, y.b)
-        & product_fits(x.b, y.a)
-}
-
-fn has_room(x: Exact, y: Exact) -> bool
-    ensures { λ r. ⌜ r ≡ hasRoom x y ⌝ }
-{
-    sums_fit(x, y) & products_fit(x, y)
-}
-
 fn last_has_space(cells: &[u64; CELLS], n: usize) -> bool
-    requires { ⌜ n ≤ 64 ⌝ }
+    requires { ⌜ n ≤ limits .typeWords ⌝ }
     ensures { λ r. ⌜ r ≡ lastHasSpace (waiting (now (cells .entry)) n) ⌝ }
 {
     match n {
@@ -143,7 +98,7 @@ fn last_has_space(cells: &[u64; CELLS], n: usize) -> bool
 }
 
 fn last_two_have_room(cells: &[u64; CELLS], n: usize) -> bool
-    requires { ⌜ n ≤ 64 ⌝ }
+    requires { ⌜ n ≤ limits .typeWords ⌝ }
     ensures { λ r. ⌜ r ≡ lastTwoHaveRoom (waiting (now (cells .entry)) n) ⌝ }
 {
     match n {
@@ -154,7 +109,7 @@ fn last_two_have_room(cells: &[u64; CELLS], n: usize) -> bool
 
 // Whether a node finds what it needs among the n values that wait, and its value has a place.
 fn ready(node: u32, ws: &[u32], cells: &[u64; CELLS], n: usize) -> bool
-    requires { ⌜ n ≤ 64 ⌝ }
+    requires { ⌜ n ≤ limits .typeWords ⌝ }
     ensures { λ r. ⌜ r ≡ isReady (now (ws .entry)) node (waiting (now (cells .entry)) n) ⌝ }
 {
     let op = node % 8;
@@ -171,7 +126,7 @@ fn ready(node: u32, ws: &[u32], cells: &[u64; CELLS], n: usize) -> bool
 // One node: its operands, the last values of the n that wait, give way to its value. How many wait then.
 fn step(node: u32, ws: &[u32], cells: &mut [u64; CELLS], n: usize) -> usize
     requires { ⌜ Ready (now ws) node (waiting (now cells) n) ⌝ }
-    requires { ⌜ (n ≤ 64) × (length (now cells) ≡ 256) ⌝ }
+    requires { ⌜ (n ≤ limits .typeWords) × (length (now cells) ≡ 4 * limits .typeWords) ⌝ }
     ensures { λ r. ⌜ Turned (now (ws .entry)) node (now (cells .entry)) n (now (cells .exit)) r ⌝ }
 {
     let op = node % 8;
@@ -209,7 +164,7 @@ fn only(cells: &[u64; CELLS], n: usize) -> Exact
 }
 
 // The value of the type whose code stands from one index to another, at the widths ws; 0 where no type's code stands there.
-pub fn value_at(code: &[u32], from: usize, end: usize, ws: &[u32]) -> Exact
+fn value_at(code: &[u32], from: usize, end: usize, ws: &[u32]) -> Exact
     ensures { λ r. ⌜ EachType (now (code .entry)) from end (now (ws .entry)) (λ t. r ≡ valueAt (now (ws .entry)) t) ⌝ }
     ensures { λ r. ⌜ (end ≤ length (now (code .entry)) → r ≡ valueOf (now (ws .entry)) (part (now (code .entry)) from end)) ⌝ }
     ensures { λ r. ⌜ Space r ⌝ }

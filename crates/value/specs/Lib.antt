@@ -1,4 +1,1 @@
-pub mod Fits
-pub mod Masks
-pub mod Reversal
 pub mod Numbers

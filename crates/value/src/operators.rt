@@ -2,13 +2,13 @@
 ghost use mathlib.Core.Path.{_≡_};
 ghost use Prim.Native.Nat.{_≤_, _<_, _^_};
 ghost use Rattle.language.specs.Values.{addOf, subtractOf, divideOf, remainderOf, leftOf, rightOf, binaryWidth, binaryValue, unaryWidth, unaryValue};
-ghost use Rattle.value.specs.Fits.{BinaryFits, UnaryFits};
-use crate::bits::all_ones;
-use crate::bits::complement;
-use crate::bits::low;
-use crate::bits::odd;
-use crate::bits::one_bit;
-use crate::bits::wider;
+ghost use Rattle.bits.specs.Fits.{BinaryFits, UnaryFits};
+use bits::all_ones;
+use bits::complement;
+use bits::low;
+use bits::odd;
+use bits::one_bit;
+use bits::wider;
 use language::Binary;
 use language::Unary;
 

@@ -23,7 +23,7 @@ pub enum Tried {
 fn within(w: u32, a: u64) -> bool
     ensures { λ r. ⌜ r ≡ ltb a (2 ^ w) ⌝ }
 {
-    value::low(a, w) == a
+    bits::low(a, w) == a
 }
 
 fn between(what: u64) -> Binary {
@@ -118,7 +118,7 @@ fn try_beside(m: u32, n: u32, a: u64, b: u64) -> Tried {
     if !within(n, b) {
         return Tried::Refused;
     }
-    Tried::Gives(value::beside(n, a, b))
+    Tried::Gives(ranges::beside(n, a, b))
 }
 
 fn try_copies(k: u32, w: u32, a: u64) -> Tried {
@@ -134,7 +134,7 @@ fn try_copies(k: u32, w: u32, a: u64) -> Tried {
     if !within(w, a) {
         return Tried::Refused;
     }
-    Tried::Gives(value::copies(k, w, a))
+    Tried::Gives(ranges::copies(k, w, a))
 }
 
 fn try_range_width(i: u32, j: u32) -> Tried {
@@ -144,7 +144,7 @@ fn try_range_width(i: u32, j: u32) -> Tried {
     if j > 63 {
         return Tried::Refused;
     }
-    Tried::Gives(value::range_width(i, j) as u64)
+    Tried::Gives(ranges::range_width(i, j) as u64)
 }
 
 fn try_range(a: u64, i: u32, j: u32) -> Tried {
@@ -154,11 +154,11 @@ fn try_range(a: u64, i: u32, j: u32) -> Tried {
     if j > 63 {
         return Tried::Refused;
     }
-    Tried::Gives(value::range(a, i, j))
+    Tried::Gives(ranges::range(a, i, j))
 }
 
 fn try_matches(mask: u32, present: u32, absent: u32) -> Tried {
-    if value::matches(mask, present, absent) {
+    if bits::matches(mask, present, absent) {
         return Tried::Gives(1);
     }
     Tried::Gives(0)
@@ -169,15 +169,15 @@ fn answer(what: u64, m: u32, n: u32, a: u64, b: u64) -> Tried {
     match what {
         0..=20 => try_binary(between(what), m, n, a, b),
         21..=29 => try_unary(before(what), m, a),
-        30 => Tried::Gives(value::low(a, m)),
-        31 => Tried::Gives(value::plain_width(a) as u64),
-        32 => Tried::Gives(value::present(m) as u64),
+        30 => Tried::Gives(bits::low(a, m)),
+        31 => Tried::Gives(bits::plain_width(a) as u64),
+        32 => Tried::Gives(bits::present(m) as u64),
         33 => try_matches(m, n, width(a)),
         34 => try_beside(m, n, a, b),
         35 => try_copies(n, m, a),
         36 => try_range_width(m, n),
         37 => try_range(a, m, n),
-        38 => Tried::Gives(value::chosen(m as u64, a, b)),
+        38 => Tried::Gives(ranges::chosen(m as u64, a, b)),
         100..=120 => try_binary_width(between(what - 100), m, n),
         121..=129 => Tried::Gives(value::unary_width(before(what - 100), m) as u64),
         _ => Tried::Refused,

@@ -14,14 +14,14 @@ use borrow.Author.Tests.{eqb-true, eqb-false, leb-true, leb-false, ltb-true}
 use lib.ListN.{length, take, drop, getD}
 use Rattle.language.specs.Text.{Name, same, among}
 use Rattle.language.specs.Words.{Word, num, name, digits, fixed, Numeral, Next, over, apart, word, wrong, bytes, spellings, begins, span, digit, nameByte, digitIn, gap, baseOf, valueInBase, namedNext, ownName, numberNext, nameNext, quoteNext, first-of, left-out, keywords, signs, signNext, next, Lexed, words, badAt, push, wordsFrom, wordsOf, leftOut}
-use Rattle.spelling.proofs.Laws.{allBelow, below-all}
-use Rattle.words.specs.Table.{numbersOf, tableOf, wordOf, wordAt, kindIn, spelledWords}
+use Rattle.spelling.proofs.Laws.{allBelow, below-all, never, both-left, both-right}
+use Rattle.signs.specs.Kinds.{numbersOf, kindIn, spelledWords}
+use Rattle.words.specs.Table.{tableOf, wordOf, wordAt}
 use Rattle.words.specs.Found.{untilFrom, wordsUntil, leftIn, leftKind}
-use Rattle.words.proofs.Bytes.{never, span-taken}
+use Rattle.spans.proofs.Spans.{span-taken}
 use lib.Seq.{drop-drop}
 use Rattle.words.proofs.Whole.{clash, from-over, from-wrong, from-apart, from-word, until-over, until-apart, until-word}
-use Rattle.words.proofs.Parts.{next-over, next-apart, next-number, next-name, next-quote, next-open, next-sign, quote-over, quote-split}
-use Rattle.words.proofs.Spelled.{both-left, both-right}
+use Rattle.first_word.proofs.Parts.{next-over, next-apart, next-number, next-name, next-quote, next-open, next-sign, quote-over, quote-split}
 
 -- ---- a word that can be read back
 

@@ -12,10 +12,10 @@ use lib.ListN.{length, drop, getD}
 use lib.Seq.{drop-drop, drop-cons}
 use Rattle.language.specs.Text.{same}
 use Rattle.language.specs.Words.{Word, num, name, digits, fixed, Next, over, apart, word, wrong, bytes, begins, span, digit, nameByte, digitIn, gap, baseOf, valueInBase, namedNext, ownName, numberNext, nameNext, quoteNext, first-of, left-out, keywords, signs, signNext, next, Lexed, words, badAt, push, wordsFrom, wordsOf}
-use Rattle.words.specs.Constant.{constantAt}
+use Rattle.sized_constants.specs.Constant.{constantAt}
 use Rattle.words.proofs.Whole.{clash, from-over, from-wrong, from-apart, from-word}
-use Rattle.words.proofs.Parts.{next-over, next-apart, next-number, next-name, next-quote, next-open, next-sign, quote-over, quote-split}
-use Rattle.words.proofs.Spelled.{both-left, both-right}
+use Rattle.first_word.proofs.Parts.{next-over, next-apart, next-number, next-name, next-quote, next-open, next-sign, quote-over, quote-split}
+use Rattle.spelling.proofs.Laws.{both-left, both-right}
 
 -- a name is the run of name bytes at its place, and the value of a sized constant is that of the digits there
 unfoldable pub IsRun : List ℕ → Word → Type 0

@@ -12,14 +12,16 @@ use lib.ListN.{length, drop, getD, set, length-append}
 use lib.Seq.{sets, drop-drop, length-sets}
 use Rattle.language.specs.Text.{earliest}
 use Rattle.language.specs.Words.{Word, num, name, digits, fixed, Next, over, apart, word, wrong, next, Lexed, words, badAt, push, wordsFrom, wordsOf}
-use Rattle.words.specs.Table.{numbersOf, tableOf}
-use Rattle.words.specs.Found.{Tells, isWord, isWrong, isOver, isApart, untilFrom, wordsUntil, roomy, foundOf, tableAfter, leftIn, leftKind, placeTold, earlierOf}
-use Rattle.words.specs.declared.Item.{Item}
-use Rattle.words.specs.declared.Item.the-variants.{Word as IsWord, Wrong, Apart, Over}
+use Rattle.signs.specs.Kinds.{numbersOf}
+use Rattle.words.specs.Table.{tableOf}
+use Rattle.signs.specs.Tells.{Tells, isWord, isWrong, isOver, isApart}
+use Rattle.words.specs.Found.{untilFrom, wordsUntil, roomy, foundOf, tableAfter, leftIn, leftKind, placeTold, earlierOf}
+use Rattle.signs.specs.declared.Item.{Item}
+use Rattle.signs.specs.declared.Item.the-variants.{Word as IsWord, Wrong, Apart, Over}
 use Rattle.words.specs.declared.Found.the-variants.{Words, Bad, NoRoom}
 use Rattle.words.specs.declared.Place.{Place}
 use Rattle.words.specs.declared.Place.the-variants.{At, Nowhere}
-use Rattle.words.proofs.Bytes.{never}
+use Rattle.spelling.proofs.Laws.{never}
 
 -- ---- what an answer tells
 

@@ -1,4 +1,2 @@
 pub mod Table
-pub mod Signs
 pub mod Found
-pub mod Constant

@@ -1,39 +1,9 @@
--- The words of a text as the program holds them: four numbers for each, its kind, its place, its length in bytes, and a plain number's value. Assumes nothing: these are definitions.
-use mathlib.Core.Bool.{Bool, true, false}
+-- The words of a text as the program holds them: the four numbers of each (`signs`, specs/Kinds.antt), and the words back from them. Assumes nothing: these are definitions.
 use mathlib.Core.List.{List, [], _∷_, _++_}
 use Prim.Native.Nat.{ℕ, zero, suc, _+_, _-_, _*_}
-use Prim.Native.String.{String}
-use lib.ListN.{length, getD, take, drop}
-use lib.Text.{eqt}
-use Rattle.language.specs.Text.{Name}
-use Rattle.language.specs.Words.{Word, num, name, digits, fixed, Numeral, bytes, valueInBase, baseOf}
-
--- the kinds: 1 a plain number, 2 a name, 3 the `'` word of a sized constant; from 4 on the fixed words, in this order
-unfoldable pub spelledWords : List String
-spelledWords =
-    "input" ∷ "output" ∷ "reg" ∷ "ff" ∷ "and" ∷ "or" ∷ "let" ∷ "val" ∷ "in" ∷ "end" ∷ "case" ∷ "if" ∷ "then" ∷ "else" ∷ "max" ∷ "log" ∷ "ceil" ∷ "floor"
-    ∷ "_" ∷ "'d" ∷ "=>" ∷ "==" ∷ "!=" ∷ "<<" ∷ "<=" ∷ ">>" ∷ ">=" ∷ "&&" ∷ "||" ∷ "~&" ∷ "~|" ∷ "~^"
-    ∷ "(" ∷ ")" ∷ "{" ∷ "}" ∷ "[" ∷ "]" ∷ "," ∷ ";" ∷ ":" ∷ "?" ∷ "." ∷ "=" ∷ "<" ∷ ">" ∷ "!" ∷ "~" ∷ "&" ∷ "|" ∷ "^" ∷ "+" ∷ "-" ∷ "*" ∷ "/" ∷ "%"
-    ∷ "foreach" ∷ "instruction" ∷ "@" ∷ "$" ∷ "#" ∷ []
-
-unfoldable pub kindIn : List String → String → ℕ
-kindIn [] s = zero
-kindIn (v ∷ l) s = elim (eqt v s) [ true ↦ zero | false ↦ suc (kindIn l s) ]
-
-unfoldable pub kindsOf : List String → List ℕ
-kindsOf [] = []
-kindsOf (s ∷ l) = (4 + kindIn spelledWords s) ∷ kindsOf l
-
--- every kind in this order: those of the code are proved to be these (`words::kinds::all`)
-unfoldable pub kinds : List ℕ
-kinds = 1 ∷ 2 ∷ 3 ∷ kindsOf spelledWords
-
--- the four numbers of a word
-unfoldable pub numbersOf : Word → List ℕ
-numbersOf (num n) = 1 ∷ n .at ∷ n .long ∷ n .value ∷ []
-numbersOf (name n) = 2 ∷ n .at ∷ length (n .spelled) ∷ 0 ∷ []
-numbersOf (digits n) = 3 ∷ n .at ∷ n .long ∷ 0 ∷ []
-numbersOf (fixed s p) = (4 + kindIn spelledWords s) ∷ p ∷ length (bytes s) ∷ 0 ∷ []
+use lib.ListN.{getD, take, drop}
+use Rattle.signs.specs.Kinds.{numbersOf, spelledWords}
+use Rattle.language.specs.Words.{Word, num, name, digits, fixed, valueInBase, baseOf}
 
 unfoldable pub tableOf : List Word → List ℕ
 tableOf [] = []

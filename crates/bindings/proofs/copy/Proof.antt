@@ -41,7 +41,14 @@ loop-less : tie.Need-loop-less Inv-loop μ-loop
 loop-less c = search needs
 
 loop-again : tie.Need-loop-again Inv-loop μ-loop
-loop-again c = (omega arith, simp length-set (c .before .before .loop .inv .1), ap (λ (l : List ℕ). set l (c .before .before .before .args .at + c .before .before .loop .i) (getD (c .before .before .before .args .from .now) (c .before .before .loop .i) 0)) (c .before .before .loop .inv .2) ∙ sets-one-more (c .before .before .before .args .table .now) (c .before .before .before .args .at) (c .before .before .loop .i) (c .before .before .before .args .from .now) (omega arith))
+loop-again c =
+    let args = c .before .before .before .args in
+    let loop = c .before .before .loop in (
+      omega arith,
+      simp length-set (loop .inv .1),
+      ap (λ (l : List ℕ). set l (args .at + loop .i) (getD (args .from .now) (loop .i) 0)) (loop .inv .2) ∙
+          sets-one-more (args .table .now) (args .at) (loop .i) (args .from .now) (omega arith),
+    )
 
 same-length : tie.Need-same-length Inv-loop μ-loop
 same-length c = search needs

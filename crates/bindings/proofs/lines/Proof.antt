@@ -7,7 +7,7 @@ use Prim.Native.Nat.{_-_}
 use lib.ListN.{length, drop}
 use Rattle.language.specs.Bindings.{lines}
 use Rattle.bindings.specs.Steps.{linesTold, count}
-use Rattle.bindings.proofs.Laws.{went-in, lost-in}
+use Rattle.binding_numbers.proofs.Numbers.{went-in, lost-in}
 use Rattle.bindings.proofs.Rows.{Upto, upto-start, upto-next, upto-lost, upto-done, line-went, line-lost, named-none, named-as, named-went}
 use Rattle.bindings.proofs.lines.Statement.{statement}
 use Rattle.bindings.proofs.lines.Tie as tie
@@ -22,7 +22,18 @@ loop-holds : tie.Need-loop-holds Inv-loop μ-loop
 loop-holds c = (refl, upto-start _ _ _ _ _ (c .before .before .pre .0 .inside))
 
 line-requires : tie.Need-line-requires Inv-loop μ-loop
-line-requires c κs = (record { few = omega (arith, c .before .before .loop .inv .1 .few); inside = c .before .before .loop .inv .1 .inside; short = c .before .before .before .before .before .pre .0 .short; wide = omega (arith, c .before .before .loop .inv .0, c .before .before .before .before .before .pre .0 .wide); named = c .before .before .loop .inv .1 .named }, (omega arith, (c .before .before .before .before .before .pre .1 .1, c .before .before .before .before .before .pre .1 .2)))
+line-requires c κs =
+    let pre = c .before .before .before .before .before .pre in
+    let loop = c .before .before .loop in (
+      record {
+        few = omega (arith, loop .inv .1 .few);
+        inside = loop .inv .1 .inside;
+        short = pre .0 .short;
+        wide = omega (arith, loop .inv .0, pre .0 .wide);
+        named = loop .inv .1 .named;
+      },
+      (omega arith, pre .1 .1),
+    )
 
 enum-known-p : tie.Need-enum-known-p Inv-loop μ-loop
 enum-known-p c = search needs
@@ -32,7 +43,20 @@ same-length c = c .before .before .before .before .before .line .kept .1 .0 ∙ 
 
 returns : tie.Need-returns Inv-loop μ-loop
 unfolding linesTold
-returns c = record { reads = record { tells = upto-lost (c .before .before .before .before .before .before .before .before .loop .inv .1) (c .before .before .before .before .before .before .before .loop-test .taken) (line-lost _ _ (c .before .before .before .before .before .line .ensures .reads) (c .before .p .given .1)); inside = lost-in (c .before .before .before .before .before .line .ensures .reads) (c .before .p .given .1); small = omega arith }; named = named-none _ _ }
+returns c =
+    let loop = c .before .before .before .before .before .before .before .before .loop in
+    let loop-test = c .before .before .before .before .before .before .before .loop-test in
+    let line = c .before .before .before .before .before .line in
+    let p = c .before .p in
+    record {
+      reads = record {
+        tells = upto-lost (loop .inv .1) (loop-test .taken) (line-lost _ _ (line .ensures .reads) (p .given .1));
+        inside = lost-in
+            (line .ensures .reads) (p .given .1);
+        small = omega arith;
+      };
+      named = named-none _ _;
+    }
 
 enum-known-next : tie.Need-enum-known-next Inv-loop μ-loop
 enum-known-next c = search needs
@@ -44,7 +68,15 @@ loop-less : tie.Need-loop-less Inv-loop μ-loop
 loop-less c = search needs
 
 loop-again : tie.Need-loop-again Inv-loop μ-loop
-loop-again c = (c .before .before .before .before .before .line .kept .1 .0 ∙ c .before .before .before .before .before .before .before .before .loop .inv .0, upto-next (c .before .before .before .before .before .before .before .before .loop .inv .1) (c .before .before .before .before .before .before .before .loop-test .taken) (line-went _ _ (c .before .before .before .before .before .line .ensures .reads) (c .before .next .given .1)) (c .before .before .before .before .before .line .ensures .kept) (named-went _ (c .before .next .given .1) (c .before .before .before .before .before .line .ensures .named)) (went-in (c .before .before .before .before .before .line .ensures .reads) (c .before .next .given .1)))
+loop-again c =
+    let loop = c .before .before .before .before .before .before .before .before .loop in
+    let loop-test = c .before .before .before .before .before .before .before .loop-test in
+    let line = c .before .before .before .before .before .line in
+    let next = c .before .next in (
+      line .kept .1 .0 ∙ loop .inv .0,
+      upto-next (loop .inv .1) (loop-test .taken) (line-went _ _ (line .ensures .reads) (next .given .1))
+          (line .ensures .kept) (named-went _ (next .given .1) (line .ensures .named)) (went-in (line .ensures .reads) (next .given .1)),
+    )
 
 same-length-2 : tie.Need-same-length-2 Inv-loop μ-loop
 same-length-2 c = c .before .loop .inv .0

@@ -2,7 +2,7 @@
 use native.Mathlib.Omega.{arith}
 use mathlib.Core.Path.{_≡_, refl, sym, ap, _∙_}
 use Rattle.bindings.specs.Steps.{linesTold}
-use Rattle.bindings.proofs.Laws.{went-in, went-small, lost-in, number-went, number-lost}
+use Rattle.binding_numbers.proofs.Numbers.{went-in, went-small, lost-in, number-went, number-lost}
 use Rattle.bindings.proofs.Rows.{section-lost, section-went, named-none}
 use borrow.Author.Needs.{needs}
 use Rattle.bindings.proofs.section.Statement.{statement}
@@ -18,7 +18,14 @@ enum-known-at : tie.Need-enum-known-at
 enum-known-at c = search needs
 
 lines-requires : tie.Need-lines-requires
-lines-requires c κs = (record { few = omega arith; inside = went-in (c .before .before .before .before .number-line .ensures) (c .before .before .at .given .1); short = c .before .before .before .before .before .before .before .pre .0 .short; wide = c .before .before .before .before .before .before .before .pre .0 .wide; named = c .before .before .before .before .before .before .before .pre .0 .named }, (went-small (c .before .before .before .before .number-line .ensures) (c .before .before .at .given .1), c .before .before .before .before .before .before .before .pre .1 .0, c .before .before .before .before .before .before .before .pre .1 .1))
+lines-requires c κs =
+    let pre = c .before .before .before .before .before .before .before .pre in
+    let number-line = c .before .before .before .before .number-line in
+    let at = c .before .before .at in (
+      record
+          { few = omega arith; inside = went-in (number-line .ensures) (at .given .1); short = pre .0 .short; wide = pre .0 .wide; named = pre .0 .named },
+      (went-small (number-line .ensures) (at .given .1), pre .1),
+    )
 
 returns : tie.Need-returns
 unfolding linesTold

@@ -15,7 +15,9 @@ same-length-2 : tie.Need-same-length-2
 same-length-2 c = search needs
 
 returns : tie.Need-returns
-returns c = (ap (λ (o : Outcome). o .answer) (c .before .before .before .before .cycle .ensures), ap (λ (o : Outcome). o .outputs) (c .before .before .before .before .cycle .ensures), ap (λ (o : Outcome). o .memory) (c .before .before .before .before .cycle .ensures))
+returns c =
+    let cycle = c .before .before .before .before .cycle in
+    (ap (λ (o : Outcome). o .answer) (cycle .ensures), (ap (λ (o : Outcome). o .outputs) (cycle .ensures), ap (λ (o : Outcome). o .memory) (cycle .ensures)))
 
 pub plan-cycle-spec : {M : Type 1} → statement M
 plan-cycle-spec = tie.close (tie.spec cycle-requires same-length same-length-2 returns)

@@ -5,9 +5,9 @@ use mathlib.Core.Path.{_≡_, refl, sym, ap, ap₂, _∙_, subst}
 use mathlib.Core.List.{List, [], _∷_, _++_}
 use lib.ListN.{length, getD, take, drop, replicate}
 use Rattle.plan.specs.Layout.{portCount, groupCount}
-use Rattle.machine.specs.Machine.{State, state, execRules}
+use Rattle.item_steps.specs.Machine.{State, state, execRules}
 use Rattle.machine.specs.Fires.{Fires, firedRun}
-use Rattle.machine.specs.Tables.{Tables}
+use Rattle.item_steps.specs.Tables.{Tables}
 use Rattle.machine.proofs.Rules.{part-fires, part-long, acted}
 use borrow.Author.Needs.{needs}
 use Rattle.machine.proofs.act.Statement.{statement}

@@ -95,37 +95,104 @@ either-requires-5 : tie.Need-either-requires-5
 either-requires-5 c κs = search needs
 
 returns : tie.Need-returns
-returns c = at-signed (c .before .before .before .before .before .before .before .before .before .before .args .text .now) (c .before .before .before .before .before .before .before .before .before .before .args .tape .now) (c .before .before .before .before .before .before .before .before .before .before .args .many) (c .before .before .before .before .before .before .before .before .before .before .args .rule) (c .before .before .before .before .before .before .before .before .before .before .args .lets) (c .before .before .before .before .before .before .before .before .before .before .args .i) (c .before .before .before .before .before .name .ensures ∙ ap (nameFrom (c .before .before .before .before .before .before .before .before .before .before .args .text .now)) (c .before .before .before .before .before .before .wide .ensures)) (c .before .before .before .match .keys1) (c .either .ensures) (c .before .before .said .ensures) (c .before .said2 .ensures)
+returns c =
+    let args = c .before .before .before .before .before .before .before .before .before .before .args in
+    let wide = c .before .before .before .before .before .before .wide in
+    let name = c .before .before .before .before .before .name in
+    let match = c .before .before .before .match in
+    at-signed (args .text .now) (args .tape .now) (args .many) (args .rule) (args .lets) (args .i)
+    (name .ensures ∙ ap (nameFrom (args .text .now)) (wide .ensures)) (match .keys1) (c .either .ensures) (c .before .before .said .ensures)
+    (c .before .said2 .ensures)
 
 returns-2 : tie.Need-returns-2
-returns-2 c = at-declared (c .before .before .before .before .before .before .before .before .before .before .args .text .now) (c .before .before .before .before .before .before .before .before .before .before .args .tape .now) (c .before .before .before .before .before .before .before .before .before .before .args .many) (c .before .before .before .before .before .before .before .before .before .before .args .rule) (c .before .before .before .before .before .before .before .before .before .before .args .lets) (c .before .before .before .before .before .before .before .before .before .before .args .i) (c .before .before .before .before .before .name .ensures ∙ ap (nameFrom (c .before .before .before .before .before .before .before .before .before .before .args .text .now)) (c .before .before .before .before .before .before .wide .ensures)) (c .before .before .before .match .keys2) (c .either2 .ensures) (c .before .before .said3 .ensures) (c .before .said4 .ensures)
+returns-2 c =
+    let args = c .before .before .before .before .before .before .before .before .before .before .args in
+    let wide = c .before .before .before .before .before .before .wide in
+    let name = c .before .before .before .before .before .name in
+    let match = c .before .before .before .match in
+    at-declared (args .text .now) (args .tape .now) (args .many) (args .rule) (args .lets) (args .i)
+    (name .ensures ∙ ap (nameFrom (args .text .now)) (wide .ensures)) (match .keys2) (c .either2 .ensures) (c .before .before .said3 .ensures)
+    (c .before .said4 .ensures)
 
 returns-3 : tie.Need-returns-3
-returns-3 c = at-memory (c .before .before .before .before .before .before .before .before .args .text .now) (c .before .before .before .before .before .before .before .before .args .tape .now) (c .before .before .before .before .before .before .before .before .args .many) (c .before .before .before .before .before .before .before .before .args .rule) (c .before .before .before .before .before .before .before .before .args .lets) (c .before .before .before .before .before .before .before .before .args .i) (c .before .before .before .name .ensures ∙ ap (nameFrom (c .before .before .before .before .before .before .before .before .args .text .now)) (c .before .before .before .before .wide .ensures)) (c .before .match .keys3) (refl) (c .said5 .ensures)
+returns-3 c =
+    let args = c .before .before .before .before .before .before .before .before .args in
+    let wide = c .before .before .before .before .wide in
+    let name = c .before .before .before .name in
+    at-memory (args .text .now) (args .tape .now) (args .many) (args .rule) (args .lets) (args .i)
+    (name .ensures ∙ ap (nameFrom (args .text .now)) (wide .ensures)) (c .before .match .keys3) (refl) (c .said5 .ensures)
 
 returns-4 : tie.Need-returns-4
-returns-4 c = at-environment (c .before .before .before .before .before .before .before .before .args .text .now) (c .before .before .before .before .before .before .before .before .args .tape .now) (c .before .before .before .before .before .before .before .before .args .many) (c .before .before .before .before .before .before .before .before .args .rule) (c .before .before .before .before .before .before .before .before .args .lets) (c .before .before .before .before .before .before .before .before .args .i) (c .before .before .before .name .ensures ∙ ap (nameFrom (c .before .before .before .before .before .before .before .before .args .text .now)) (c .before .before .before .before .wide .ensures)) (c .before .match .keys4) (refl) (c .said6 .ensures)
+returns-4 c =
+    let args = c .before .before .before .before .before .before .before .before .args in
+    let wide = c .before .before .before .before .wide in
+    let name = c .before .before .before .name in
+    at-environment (args .text .now) (args .tape .now) (args .many) (args .rule) (args .lets) (args .i)
+    (name .ensures ∙ ap (nameFrom (args .text .now)) (wide .ensures)) (c .before .match .keys4) (refl) (c .said6 .ensures)
 
 returns-5 : tie.Need-returns-5
-returns-5 c = at-value (c .before .before .before .before .before .before .before .before .args .text .now) (c .before .before .before .before .before .before .before .before .args .tape .now) (c .before .before .before .before .before .before .before .before .args .many) (c .before .before .before .before .before .before .before .before .args .rule) (c .before .before .before .before .before .before .before .before .args .lets) (c .before .before .before .before .before .before .before .before .args .i) (c .before .before .before .name .ensures ∙ ap (nameFrom (c .before .before .before .before .before .before .before .before .args .text .now)) (c .before .before .before .before .wide .ensures)) (c .before .match .keys5) (refl) (c .said7 .ensures)
+returns-5 c =
+    let args = c .before .before .before .before .before .before .before .before .args in
+    let wide = c .before .before .before .before .wide in
+    let name = c .before .before .before .name in
+    at-value (args .text .now) (args .tape .now) (args .many) (args .rule) (args .lets) (args .i)
+    (name .ensures ∙ ap (nameFrom (args .text .now)) (wide .ensures)) (c .before .match .keys5) (refl) (c .said7 .ensures)
 
 returns-6 : tie.Need-returns-6
-returns-6 c = at-port (c .before .before .before .before .before .before .before .before .args .text .now) (c .before .before .before .before .before .before .before .before .args .tape .now) (c .before .before .before .before .before .before .before .before .args .many) (c .before .before .before .before .before .before .before .before .args .rule) (c .before .before .before .before .before .before .before .before .args .lets) (c .before .before .before .before .before .before .before .before .args .i) (c .before .before .before .name .ensures ∙ ap (nameFrom (c .before .before .before .before .before .before .before .before .args .text .now)) (c .before .before .before .before .wide .ensures)) (c .before .match .keys6) (refl) (c .said8 .ensures)
+returns-6 c =
+    let args = c .before .before .before .before .before .before .before .before .args in
+    let wide = c .before .before .before .before .wide in
+    let name = c .before .before .before .name in
+    at-port (args .text .now) (args .tape .now) (args .many) (args .rule) (args .lets) (args .i)
+    (name .ensures ∙ ap (nameFrom (args .text .now)) (wide .ensures)) (c .before .match .keys6) (refl) (c .said8 .ensures)
 
 returns-7 : tie.Need-returns-7
-returns-7 c = at-present (c .before .before .before .before .before .before .before .before .before .before .args .text .now) (c .before .before .before .before .before .before .before .before .before .before .args .tape .now) (c .before .before .before .before .before .before .before .before .before .before .args .many) (c .before .before .before .before .before .before .before .before .before .before .args .rule) (c .before .before .before .before .before .before .before .before .before .before .args .lets) (c .before .before .before .before .before .before .before .before .before .before .args .i) (c .before .before .before .before .before .name .ensures ∙ ap (nameFrom (c .before .before .before .before .before .before .before .before .before .before .args .text .now)) (c .before .before .before .before .before .before .wide .ensures)) (c .before .before .before .match .keys7) (c .either3 .ensures) (c .before .before .said9 .ensures) (c .before .said10 .ensures)
+returns-7 c =
+    let args = c .before .before .before .before .before .before .before .before .before .before .args in
+    let wide = c .before .before .before .before .before .before .wide in
+    let name = c .before .before .before .before .before .name in
+    let match = c .before .before .before .match in
+    at-present (args .text .now) (args .tape .now) (args .many) (args .rule) (args .lets) (args .i)
+    (name .ensures ∙ ap (nameFrom (args .text .now)) (wide .ensures)) (match .keys7) (c .either3 .ensures) (c .before .before .said9 .ensures)
+    (c .before .said10 .ensures)
 
 returns-8 : tie.Need-returns-8
-returns-8 c = at-read (c .before .before .before .before .before .before .before .before .before .before .args .text .now) (c .before .before .before .before .before .before .before .before .before .before .args .tape .now) (c .before .before .before .before .before .before .before .before .before .before .args .many) (c .before .before .before .before .before .before .before .before .before .before .args .rule) (c .before .before .before .before .before .before .before .before .before .before .args .lets) (c .before .before .before .before .before .before .before .before .before .before .args .i) (c .before .before .before .before .before .name .ensures ∙ ap (nameFrom (c .before .before .before .before .before .before .before .before .before .before .args .text .now)) (c .before .before .before .before .before .before .wide .ensures)) (c .before .before .before .match .keys8) (ap not (c .either4 .ensures)) (c .before .before .said11 .ensures) (c .before .said12 .ensures)
+returns-8 c =
+    let args = c .before .before .before .before .before .before .before .before .before .before .args in
+    let wide = c .before .before .before .before .before .before .wide in
+    let name = c .before .before .before .before .before .name in
+    let match = c .before .before .before .match in
+    at-read (args .text .now) (args .tape .now) (args .many) (args .rule) (args .lets) (args .i)
+    (name .ensures ∙ ap (nameFrom (args .text .now)) (wide .ensures)) (match .keys8) (ap not (c .either4 .ensures))
+    (c .before .before .said11 .ensures) (c .before .said12 .ensures)
 
 returns-9 : tie.Need-returns-9
-returns-9 c = at-assign (c .before .before .before .before .before .before .before .before .args .text .now) (c .before .before .before .before .before .before .before .before .args .tape .now) (c .before .before .before .before .before .before .before .before .args .many) (c .before .before .before .before .before .before .before .before .args .rule) (c .before .before .before .before .before .before .before .before .args .lets) (c .before .before .before .before .before .before .before .before .args .i) (c .before .before .before .name .ensures ∙ ap (nameFrom (c .before .before .before .before .before .before .before .before .args .text .now)) (c .before .before .before .before .wide .ensures)) (c .before .match .keys9) (refl) (c .said13 .ensures)
+returns-9 c =
+    let args = c .before .before .before .before .before .before .before .before .args in
+    let wide = c .before .before .before .before .wide in
+    let name = c .before .before .before .name in
+    at-assign (args .text .now) (args .tape .now) (args .many) (args .rule) (args .lets) (args .i)
+    (name .ensures ∙ ap (nameFrom (args .text .now)) (wide .ensures)) (c .before .match .keys9) (refl) (c .said13 .ensures)
 
 returns-10 : tie.Need-returns-10
-returns-10 c = at-val (c .before .before .before .before .before .before .before .before .before .before .args .text .now) (c .before .before .before .before .before .before .before .before .before .before .args .tape .now) (c .before .before .before .before .before .before .before .before .before .before .args .many) (c .before .before .before .before .before .before .before .before .before .before .args .rule) (c .before .before .before .before .before .before .before .before .before .before .args .lets) (c .before .before .before .before .before .before .before .before .before .before .args .i) (c .before .before .before .before .before .name .ensures ∙ ap (nameFrom (c .before .before .before .before .before .before .before .before .before .before .args .text .now)) (c .before .before .before .before .before .before .wide .ensures)) (c .before .before .before .match .keys10) (c .either5 .ensures) (c .before .before .said14 .ensures) (c .before .said15 .ensures)
+returns-10 c =
+    let args = c .before .before .before .before .before .before .before .before .before .before .args in
+    let wide = c .before .before .before .before .before .before .wide in
+    let name = c .before .before .before .before .before .name in
+    let match = c .before .before .before .match in
+    at-val (args .text .now) (args .tape .now) (args .many) (args .rule) (args .lets) (args .i)
+    (name .ensures ∙ ap (nameFrom (args .text .now)) (wide .ensures)) (match .keys10) (c .either5 .ensures) (c .before .before .said14 .ensures)
+    (c .before .said15 .ensures)
 
 returns-11 : tie.Need-returns-11
-returns-11 c = at-none (c .before .before .before .before .before .before .before .args .text .now) (c .before .before .before .before .before .before .before .args .tape .now) (c .before .before .before .before .before .before .before .args .many) (c .before .before .before .before .before .before .before .args .rule) (c .before .before .before .before .before .before .before .args .lets) (c .before .before .before .before .before .before .before .args .i) (c .before .before .name .ensures ∙ ap (nameFrom (c .before .before .before .before .before .before .before .args .text .now)) (c .before .before .before .wide .ensures)) (c .match .rest .0 .0 .0 .0 .0 .0 .0 .0 .0 .1) (c .match .rest .0 .0 .0 .0 .0 .0 .0 .0 .1) (c .match .rest .0 .0 .0 .0 .0 .0 .0 .1) (c .match .rest .0 .0 .0 .0 .0 .0 .1) (c .match .rest .0 .0 .0 .0 .0 .1) (c .match .rest .0 .0 .0 .0 .1) (c .match .rest .0 .0 .0 .1) (c .match .rest .0 .0 .1) (c .match .rest .0 .1) (c .match .rest .1)
+returns-11 c =
+    let args = c .before .before .before .before .before .before .before .args in
+    let wide = c .before .before .before .wide in
+    at-none (args .text .now) (args .tape .now) (args .many) (args .rule) (args .lets) (args .i)
+    (c .before .before .name .ensures ∙ ap (nameFrom (args .text .now)) (wide .ensures)) (c .match .rest .0 .0 .0 .0 .0 .0 .0 .0 .0 .1)
+    (c .match .rest .0 .0 .0 .0 .0 .0 .0 .0 .1) (c .match .rest .0 .0 .0 .0 .0 .0 .0 .1) (c .match .rest .0 .0 .0 .0 .0 .0 .1)
+    (c .match .rest .0 .0 .0 .0 .0 .1) (c .match .rest .0 .0 .0 .0 .1) (c .match .rest .0 .0 .0 .1) (c .match .rest .0 .0 .1) (c .match .rest .0 .1)
+    (c .match .rest .1)
 
 pub at-fault-spec : {M : Type 1} → statement M
 at-fault-spec =

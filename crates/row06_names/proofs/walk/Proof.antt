@@ -62,7 +62,31 @@ loop-less : tie.Need-loop-less Inv-loop μ-loop
 loop-less c = search needs
 
 loop-again : tie.Need-loop-again Inv-loop μ-loop
-loop-again c = (omega arith, pick-within _ _ _ (c .before .before .before .before .before .before .loop .inv .1) (c .before .from .ensures), pick-within _ _ _ (c .before .before .before .before .before .before .loop .inv .2) (c .from2 .ensures), after-more _ _ _ (c .before .before .before .before .before .before .loop .inv .3) (c .before .from .ensures), after-more _ _ _ (c .before .before .before .before .before .before .loop .inv .4) (c .from2 .ensures), ⊎-elim (λ w. w .3 ∙ w .2 .ensures ∙ fault-more (λ (k : ℕ). faulty (c .before .before .before .before .before .before .before .before .before .args .text .now) (c .before .before .before .before .before .before .before .before .before .args .tape .now) (c .before .before .before .before .before .before .before .before .before .args .many) (after RULED (c .before .before .before .before .before .before .before .before .before .args .tape .now) k) (after END (c .before .before .before .before .before .before .before .before .before .args .tape .now) k) k) (c .before .before .before .before .before .before .before .before .before .args .tape .now) (c .before .before .before .before .before .before .loop .i) (c .before .before .before .before .before .before .loop .inv .5) (ap₂ (λ (x y : ℕ). faulty (c .before .before .before .before .before .before .before .before .before .args .text .now) (c .before .before .before .before .before .before .before .before .before .args .tape .now) (c .before .before .before .before .before .before .before .before .before .args .many) x y (c .before .before .before .before .before .before .loop .i)) (sym (c .before .before .before .before .before .before .loop .inv .3)) (sym (c .before .before .before .before .before .before .loop .inv .4)) ∙ sym (c .before .before .before .before .at-fault .ensures) ∙ w .0 .taken)) (λ w. w .1 ∙ fault-same (λ (k : ℕ). faulty (c .before .before .before .before .before .before .before .before .before .args .text .now) (c .before .before .before .before .before .before .before .before .before .args .tape .now) (c .before .before .before .before .before .before .before .before .before .args .many) (after RULED (c .before .before .before .before .before .before .before .before .before .args .tape .now) k) (after END (c .before .before .before .before .before .before .before .before .before .args .tape .now) k) k) (c .before .before .before .before .before .before .before .before .before .args .tape .now) (c .before .before .before .before .before .before .loop .i) (c .before .before .before .before .before .before .loop .inv .5) (ap₂ (λ (x y : ℕ). faulty (c .before .before .before .before .before .before .before .before .before .args .text .now) (c .before .before .before .before .before .before .before .before .before .args .tape .now) (c .before .before .before .before .before .before .before .before .before .args .many) x y (c .before .before .before .before .before .before .loop .i)) (sym (c .before .before .before .before .before .before .loop .inv .3)) (sym (c .before .before .before .before .before .before .loop .inv .4)) ∙ sym (c .before .before .before .before .at-fault .ensures) ∙ w .0 .left)) (c .before .before .before .if1 .came))
+loop-again c =
+    let args = c .before .before .before .before .before .before .before .before .before .args in
+    let loop = c .before .before .before .before .before .before .loop in
+    let at-fault = c .before .before .before .before .at-fault in
+    let if1 = c .before .before .before .if1 in
+    let from = c .before .from in (
+      omega arith,
+      pick-within _ _ _ (loop .inv .1) (from .ensures),
+      pick-within _ _ _ (loop .inv .2) (c .from2 .ensures),
+      after-more _ _ _
+          (loop .inv .3) (from .ensures),
+      after-more _ _ _ (loop .inv .4) (c .from2 .ensures),
+      ⊎-elim
+          (λ w. w .3 ∙ w .2 .ensures ∙ fault-more
+          (λ (k : ℕ). faulty (args .text .now) (args .tape .now) (args .many) (after RULED (args .tape .now) k) (after END (args .tape .now) k) k)
+          (args .tape .now) (loop .i) (loop .inv .5)
+          (ap₂ (λ (x y : ℕ). faulty (args .text .now) (args .tape .now) (args .many) x y (loop .i)) (sym (loop .inv .3)) (sym (loop .inv .4)) ∙ sym
+          (at-fault .ensures) ∙ w .0 .taken))
+          (λ w. w .1 ∙ fault-same
+          (λ (k : ℕ). faulty (args .text .now) (args .tape .now) (args .many) (after RULED (args .tape .now) k) (after END (args .tape .now) k) k)
+          (args .tape .now) (loop .i) (loop .inv .5)
+          (ap₂ (λ (x y : ℕ). faulty (args .text .now) (args .tape .now) (args .many) x y (loop .i)) (sym (loop .inv .3)) (sym (loop .inv .4)) ∙ sym
+          (at-fault .ensures) ∙ w .0 .left))
+          (if1 .came),
+    )
 
 returns : tie.Need-returns Inv-loop μ-loop
 returns c = let e : c .before .loop .i ≡ c .before .before .before .before .args .many = omega arith in c .before .loop .inv .5 ∙ ap (λ (i : ℕ). placeTold (earliest (faultsAt (c .before .before .before .before .args .text .now) (c .before .before .before .before .args .tape .now) (c .before .before .before .before .args .many) i))) e

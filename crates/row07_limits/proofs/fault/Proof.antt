@@ -32,13 +32,31 @@ enum-told-2 : tie.Need-enum-told-2
 enum-told-2 c = search needs
 
 returns : tie.Need-returns
-returns c = λ ws a short h. row-answer (c .before .before .before .before .before .before .before .before .before .before .args .text .now) (c .before .before .before .before .before .before .before .before .before .before .args .tape .now) _ _ (c .before .before .before .before .before .before .before .before .before .before .args .n) (c .before .before .before .before .before .before .before .before .before .before .pre) (search needs) (c .before .before .before .before .before .before .words .ensures .1) short h _ (sym (c .before .before .before .many .given .1) ∙ c .before .before .before .before .before .before .words .ensures .0) (c .listed .ensures)
+returns c =
+    let args = c .before .before .before .before .before .before .before .before .before .before .args in
+    let pre = c .before .before .before .before .before .before .before .before .before .before .pre in
+    let words = c .before .before .before .before .before .before .words in
+    let many = c .before .before .before .many in
+    λ ws a short h. row-answer (args .text .now) (args .tape .now) _ _ (args .n) (pre) (search needs) (words .ensures .1) short h _
+    (sym (many .given .1) ∙ words .ensures .0) (c .listed .ensures)
 
 returns-2 : tie.Need-returns-2
-returns-2 c = λ ws a short h. absurd (row-never (c .before .before .before .before .before .before .before .args .text .now) (c .before .before .before .before .before .before .before .args .tape .now) _ _ (c .before .before .before .before .before .before .before .args .n) (c .before .before .before .before .before .before .before .pre) (search needs) (c .before .before .before .words .ensures .1) short h (λ m e. let z : _≡_ {A = ℕ} 0 1 = cc in omega arith) (sym (c .enum-told .given .1) ∙ c .before .before .before .words .ensures .0))
+returns-2 c =
+    let args = c .before .before .before .before .before .before .before .args in
+    let pre = c .before .before .before .before .before .before .before .pre in
+    let words = c .before .before .before .words in
+    λ ws a short h. absurd
+    (row-never (args .text .now) (args .tape .now) _ _ (args .n) (pre) (search needs) (words .ensures .1) short h
+    (λ m e. let z : _≡_ {A = ℕ} 0 1 = cc in omega arith) (sym (c .enum-told .given .1) ∙ words .ensures .0))
 
 returns-3 : tie.Need-returns-3
-returns-3 c = λ ws a short h. absurd (row-never (c .before .before .before .before .before .before .before .args .text .now) (c .before .before .before .before .before .before .before .args .tape .now) _ _ (c .before .before .before .before .before .before .before .args .n) (c .before .before .before .before .before .before .before .pre) (search needs) (c .before .before .before .words .ensures .1) short h (λ m e. let z : _≡_ {A = ℕ} 0 1 = cc in omega arith) (sym (c .enum-told2 .given .1) ∙ c .before .before .before .words .ensures .0))
+returns-3 c =
+    let args = c .before .before .before .before .before .before .before .args in
+    let pre = c .before .before .before .before .before .before .before .pre in
+    let words = c .before .before .before .words in
+    λ ws a short h. absurd
+    (row-never (args .text .now) (args .tape .now) _ _ (args .n) (pre) (search needs) (words .ensures .1) short h
+    (λ m e. let z : _≡_ {A = ℕ} 0 1 = cc in omega arith) (sym (c .enum-told2 .given .1) ∙ words .ensures .0))
 
 pub fault-spec : {M : Type 1} → statement M
 fault-spec =

@@ -5,8 +5,9 @@ use mathlib.Core.Path.{_≡_, refl, ap, _∙_}
 use Prim.Native.Nat.{ℕ, _≤_, _-_}
 use Rattle.language.specs.Text.{earliest}
 use Rattle.words.specs.Found.{placeTold}
-use Rattle.row07_limits.specs.Walk.{placesIn, roomAt, faultsAt}
-use Rattle.row07_limits.proofs.Backs.{no-fault, faults-more, room-more}
+use Rattle.part_lengths.specs.Parts.{placesIn}
+use Rattle.row07_limits.specs.Walk.{roomAt, faultsAt}
+use Rattle.row07_limits.proofs.Walking.{no-fault, faults-more, room-more}
 use Rattle.row07_limits.proofs.walk.Statement.{statement}
 use Rattle.row07_limits.proofs.walk.Tie as tie
 
@@ -48,7 +49,16 @@ loop-less : tie.Need-loop-less Inv-loop μ-loop
 loop-less c = search needs
 
 loop-again : tie.Need-loop-again Inv-loop μ-loop
-loop-again c = (omega arith, room-more (c .before .before .before .before .before .before .before .before .before .args .tape .now) (c .before .before .before .before .before .before .loop .i) (c .before .before .before .before .before .before .loop .inv .1) (c .before .size .ensures) (c .next .ensures), faults-more (placesIn (c .before .before .before .before .before .before .before .before .before .args .table .now) 0 (c .before .before .before .before .before .before .before .before .before .args .many)) (c .before .before .before .before .before .before .before .before .before .args .tape .now) (c .before .before .before .before .before .before .loop .i) (c .before .before .before .before .before .before .loop .inv .1) (c .before .before .before .before .before .before .loop .inv .2) (c .before .before .before .before .item-fault .ensures) (c .before .before .before .both .ensures))
+loop-again c =
+    let args = c .before .before .before .before .before .before .before .before .before .args in
+    let loop = c .before .before .before .before .before .before .loop in
+    let item-fault = c .before .before .before .before .item-fault in
+    let both = c .before .before .before .both in (
+      omega arith,
+      room-more (args .tape .now) (loop .i) (loop .inv .1) (c .before .size .ensures) (c .next .ensures),
+      faults-more
+          (placesIn (args .table .now) 0 (args .many)) (args .tape .now) (loop .i) (loop .inv .1) (loop .inv .2) (item-fault .ensures) (both .ensures),
+    )
 
 returns : tie.Need-returns Inv-loop μ-loop
 returns c = let e : c .before .loop .i ≡ c .before .before .before .before .args .items = omega arith in c .before .loop .inv .2 ∙ ap (λ (i : ℕ). placeTold (earliest (faultsAt (placesIn (c .before .before .before .before .args .table .now) 0 (c .before .before .before .before .args .many)) (c .before .before .before .before .args .tape .now) i))) e

@@ -36,7 +36,12 @@ returns-3 : tie.Need-returns-3
 returns-3 c = (counted-whole (c .before .before .before .before .before .args .s) (c .before .before .before .before .before .args .k) (omega arith) (c .before .enum-told2 .given .1) (c .less .ensures), omega (arith, c .less .ensures))
 
 returns-4 : tie.Need-returns-4
-returns-4 c = (ap (λ (n : ℕ). tally 0 n (c .before .before .before .before .args .s .logs)) (c .coming2 .ensures) ∙ not-counted _ _ (c .before .match .keys3) ∙ counted-in (c .before .before .before .before .args .s) (c .before .before .before .before .args .k) (omega arith), let m = coming-most (c .before .before .before .before .args .s .need) (c .before .before .before .before .args .k) in omega (arith, c .coming2 .ensures))
+returns-4 c =
+    let args = c .before .before .before .before .args in (
+      ap (λ (n : ℕ). tally 0 n (args .s .logs)) (c .coming2 .ensures) ∙ not-counted _ _ (c .before .match .keys3) ∙ counted-in (args .s) (args .k)
+          (omega arith),
+      let m = coming-most (args .s .need) (args .k) in omega (arith, c .coming2 .ensures),
+    )
 
 pub counted-spec : {M : Type 1} → statement M
 counted-spec =

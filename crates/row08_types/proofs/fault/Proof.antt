@@ -45,10 +45,24 @@ loop-less : tie.Need-loop-less Inv-loop μ-loop
 loop-less c = search needs
 
 loop-again : tie.Need-loop-again Inv-loop μ-loop
-loop-again c = (omega arith, ⊎-elim (λ w. w .3 ∙ w .2 .ensures ∙ fault-more (c .before .before .before .before .before .args .tape .now) (c .before .before .before .before .before .args .n) (c .before .before .before .loop .i) (c .before .before .before .loop .inv .1) (sym (c .before .at-fault .ensures) ∙ w .0 .taken)) (λ w. w .1 ∙ fault-same (c .before .before .before .before .before .args .tape .now) (c .before .before .before .before .before .args .n) (c .before .before .before .loop .i) (c .before .before .before .loop .inv .1) (sym (c .before .at-fault .ensures) ∙ w .0 .left)) (c .if1 .came))
+loop-again c =
+    let args = c .before .before .before .before .before .args in
+    let loop = c .before .before .before .loop in
+    let at-fault = c .before .at-fault in (
+      omega arith,
+      ⊎-elim
+          (λ w. w .3 ∙ w .2 .ensures ∙ fault-more (args .tape .now) (args .n) (loop .i) (loop .inv .1) (sym (at-fault .ensures) ∙ w .0 .taken))
+          (λ w. w .1 ∙ fault-same (args .tape .now) (args .n) (loop .i) (loop .inv .1) (sym (at-fault .ensures) ∙ w .0 .left)) (c .if1 .came),
+    )
 
 returns : tie.Need-returns Inv-loop μ-loop
-returns c = λ text ws a h. let e : c .before .loop .i ≡ c .before .before .before .args .n / 3 = omega arith in c .before .loop .inv .1 ∙ ap (λ (i : ℕ). placeTold (earliest (faultsAt (c .before .before .before .args .tape .now) (c .before .before .before .args .n) i))) e ∙ earliest-fault (c .before .before .before .args .tape .now) (c .before .before .before .args .n) (c .before .before .before .args .n / 3) (c .before .before .before .pre) (omega arith) (omega arith) h
+returns c =
+    let args = c .before .before .before .args in
+    let pre = c .before .before .before .pre in
+    let loop = c .before .loop in
+    λ text ws a h. let e : loop .i ≡ args .n / 3 = omega arith in loop .inv .1 ∙ ap
+    (λ (i : ℕ). placeTold (earliest (faultsAt (args .tape .now) (args .n) i))) e ∙ earliest-fault (args .tape .now) (args .n) (args .n / 3) (pre)
+    (omega arith) (omega arith) h
 
 pub fault-spec : {M : Type 1} → statement M
 fault-spec =

@@ -45,7 +45,17 @@ loop-less : tie.Need-loop-less Inv-loop μ-loop
 loop-less c = search needs
 
 loop-again : tie.Need-loop-again Inv-loop μ-loop
-loop-again c = (omega arith, omega (arith, c .counted .ensures .1), logs-more (c .before .before .before .before .before .before .loop .s) (c .before .before .before .before .before .before .before .before .args .tape .now) (c .before .before .before .before .before .before .loop .i) (c .before .before .before .before .before .loop-test .taken) (sym (c .before .before .before .before .is-done .ensures) ∙ c .before .before .before .if1 .left) (c .before .kind-of .ensures) (c .counted .ensures .0) ∙ c .before .before .before .before .before .before .loop .inv .2)
+loop-again c =
+    let args = c .before .before .before .before .before .before .before .before .args in
+    let loop = c .before .before .before .before .before .before .loop in
+    let loop-test = c .before .before .before .before .before .loop-test in
+    let is-done = c .before .before .before .before .is-done in
+    let if1 = c .before .before .before .if1 in (
+      omega arith,
+      omega (arith, c .counted .ensures .1),
+      logs-more (loop .s) (args .tape .now) (loop .i) (loop-test .taken)
+          (sym (is-done .ensures) ∙ if1 .left) (c .before .kind-of .ensures) (c .counted .ensures .0) ∙ loop .inv .2,
+    )
 
 returns-2 : tie.Need-returns-2 Inv-loop μ-loop
 returns-2 c = logs-end (c .before .loop .s) (c .before .before .before .args .tape .now) (omega arith) ∙ c .before .loop .inv .2

@@ -39,7 +39,15 @@ is-type-requires : tie.Need-is-type-requires Inv-loop μ-loop
 is-type-requires c κs = search needs
 
 returns : tie.Need-returns Inv-loop μ-loop
-returns c = (seen-stop (c .before .before .before .before .before .before .before .before .args .tape .now) (c .before .before .before .before .before .before .before .before .args .n) (c .before .before .before .before .before .loop .i) (c .before .before .before .before .before .loop .waits) (c .before .before .before .before .before .loop .s) (c .before .before .before .before .before .before .before .before .pre .0) (c .before .before .before .before .loop-test .taken) (c .before .before .kind-of .ensures) (sym (c .before .is-type .ensures) ∙ not-true _ (c .if1 .taken)) ∙ c .before .before .before .before .before .loop .inv .3, omega arith)
+returns c =
+    let args = c .before .before .before .before .before .before .before .before .args in
+    let pre = c .before .before .before .before .before .before .before .before .pre in
+    let loop = c .before .before .before .before .before .loop in
+    let loop-test = c .before .before .before .before .loop-test in (
+      seen-stop (args .tape .now) (args .n) (loop .i) (loop .waits) (loop .s) (pre .0) (loop-test .taken) (c .before .before .kind-of .ensures)
+          (sym (c .before .is-type .ensures) ∙ not-true _ (c .if1 .taken)) ∙ loop .inv .3,
+      omega arith,
+    )
 
 outward-requires : tie.Need-outward-requires Inv-loop μ-loop
 outward-requires c κs = search needs
@@ -55,10 +63,23 @@ loop-less c = search needs
 
 loop-again : tie.Need-loop-again Inv-loop μ-loop
 loop-again c =
-    let w = waiting-most (c .before .before .before .before .before .before .before .loop .waits) (c .before .before .before .before .kind-of .result) in
-    let l = lefts-most (c .before .before .before .before .before .before .before .loop .waits) (c .before .before .before .before .before .before .before .loop .s) (c .before .before .before .before .kind-of .result) in
-    let e = ap (λ (a : Around). a .lefts) (c .before .outward .ensures) in
-    (omega arith, omega (arith, c .waiting .ensures), omega arith, seen-more (c .before .before .before .before .before .before .before .before .before .before .args .tape .now) (c .before .before .before .before .before .before .before .before .before .before .args .n) (c .before .before .before .before .before .before .before .loop .i) (c .before .before .before .before .before .before .before .loop .waits) (c .before .before .before .before .before .before .before .loop .s) (c .before .before .before .before .before .before .before .before .before .before .pre .0) (c .before .before .before .before .before .before .loop-test .taken) (c .before .before .before .before .kind-of .ensures) (sym (c .before .before .before .is-type .ensures) ∙ not-false _ (c .before .before .if1 .left)) (c .waiting .ensures) (c .before .outward .ensures) ∙ c .before .before .before .before .before .before .before .loop .inv .3)
+    let args = c .before .before .before .before .before .before .before .before .before .before .args in
+    let pre = c .before .before .before .before .before .before .before .before .before .before .pre in
+    let loop = c .before .before .before .before .before .before .before .loop in
+    let loop-test = c .before .before .before .before .before .before .loop-test in
+    let kind-of = c .before .before .before .before .kind-of in
+    let is-type = c .before .before .before .is-type in
+    let outward = c .before .outward in
+    let w = waiting-most (loop .waits) (kind-of .result) in
+    let l = lefts-most (loop .waits) (loop .s) (kind-of .result) in
+    let e = ap (λ (a : Around). a .lefts) (outward .ensures) in (
+      omega arith,
+      omega (arith, c .waiting .ensures),
+      omega arith,
+      seen-more (args .tape .now) (args .n) (loop .i) (loop .waits) (loop .s) (pre .0)
+          (loop-test .taken) (kind-of .ensures) (sym (is-type .ensures) ∙ not-false _ (c .before .before .if1 .left)) (c .waiting .ensures)
+          (outward .ensures) ∙ loop .inv .3,
+    )
 
 returns-2 : tie.Need-returns-2 Inv-loop μ-loop
 returns-2 c = (seen-end (c .before .before .before .before .args .tape .now) (c .before .before .before .before .args .n) (c .before .loop .i) (c .before .loop .waits) (c .before .loop .s) (c .before .before .before .before .pre .0) (omega arith) ∙ c .before .loop .inv .3, omega arith)

@@ -29,7 +29,14 @@ same-bytes-requires : tie.Need-same-bytes-requires Inv-loop μ-loop
 same-bytes-requires c κs = search needs
 
 returns : tie.Need-returns Inv-loop μ-loop
-returns c = let e = found-here (c .before .before .before .before .before .before .before .before .before .args .btext .now) (c .before .before .before .before .before .before .before .before .before .args .table .now) (c .before .before .before .before .before .before .before .before .before .args .to) (c .before .before .before .before .loop .i) (nameFrom (c .before .before .before .before .before .before .before .before .before .args .text .now) (c .before .before .before .before .before .before .before .before .before .args .place)) (c .before .before .before .loop-test .taken) (ap₂ same (sym (c .before .before .line-name .ensures)) (sym (c .before .before .before .before .before .name .ensures)) ∙ sym (c .before .same-bytes .ensures) ∙ c .if1 .taken) in omega (arith, e, c .before .before .before .before .loop .inv .2)
+returns c =
+    let args = c .before .before .before .before .before .before .before .before .before .args in
+    let name = c .before .before .before .before .before .name in
+    let loop = c .before .before .before .before .loop in
+    let loop-test = c .before .before .before .loop-test in
+    let e = found-here (args .btext .now) (args .table .now) (args .to) (loop .i) (nameFrom (args .text .now) (args .place)) (loop-test .taken)
+    (ap₂ same (sym (c .before .before .line-name .ensures)) (sym (name .ensures)) ∙ sym (c .before .same-bytes .ensures) ∙ c .if1 .taken) in
+    omega (arith, e, loop .inv .2)
 
 add-i : tie.Need-add-i Inv-loop μ-loop
 add-i c = search needs
@@ -38,10 +45,21 @@ loop-less : tie.Need-loop-less Inv-loop μ-loop
 loop-less c = search needs
 
 loop-again : tie.Need-loop-again Inv-loop μ-loop
-loop-again c = let e = found-next (c .before .before .before .before .before .before .before .before .before .args .btext .now) (c .before .before .before .before .before .before .before .before .before .args .table .now) (c .before .before .before .before .before .before .before .before .before .args .to) (c .before .before .before .before .loop .i) (nameFrom (c .before .before .before .before .before .before .before .before .before .args .text .now) (c .before .before .before .before .before .before .before .before .before .args .place)) (c .before .before .before .loop-test .taken) (ap₂ same (sym (c .before .before .line-name .ensures)) (sym (c .before .before .before .before .before .name .ensures)) ∙ sym (c .before .same-bytes .ensures) ∙ c .if1 .left) in (omega arith, omega arith, omega (arith, e, c .before .before .before .before .loop .inv .2))
+loop-again c =
+    let args = c .before .before .before .before .before .before .before .before .before .args in
+    let name = c .before .before .before .before .before .name in
+    let loop = c .before .before .before .before .loop in
+    let loop-test = c .before .before .before .loop-test in
+    let e = found-next (args .btext .now) (args .table .now) (args .to) (loop .i) (nameFrom (args .text .now) (args .place)) (loop-test .taken)
+    (ap₂ same (sym (c .before .before .line-name .ensures)) (sym (name .ensures)) ∙ sym (c .before .same-bytes .ensures) ∙ c .if1 .left) in
+    (omega arith, omega arith, omega (arith, e, loop .inv .2))
 
 returns-2 : tie.Need-returns-2 Inv-loop μ-loop
-returns-2 c = let e = found-none (c .before .before .before .before .before .before .args .btext .now) (c .before .before .before .before .before .before .args .table .now) (c .before .before .before .before .before .before .args .to) (c .before .loop .i) (nameFrom (c .before .before .before .before .before .before .args .text .now) (c .before .before .before .before .before .before .args .place)) (omega arith) in omega (arith, e, c .before .loop .inv .2)
+returns-2 c =
+    let args = c .before .before .before .before .before .before .args in
+    let loop = c .before .loop in
+    let e = found-none (args .btext .now) (args .table .now) (args .to) (loop .i) (nameFrom (args .text .now) (args .place)) (omega arith) in
+    omega (arith, e, loop .inv .2)
 
 pub found-spec : {M : Type 1} → statement M
 found-spec =

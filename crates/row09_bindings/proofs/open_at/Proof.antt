@@ -56,7 +56,12 @@ found-requires-2 : tie.Need-found-requires-2
 found-requires-2 c κs = search needs
 
 returns : tie.Need-returns
-returns c = at-port (c .before .before .before .before .before .before .before .before .before .before .before .before .args .text .now) (c .before .before .before .before .before .before .before .before .before .before .before .before .args .tape .now) (c .before .before .before .before .before .before .before .before .before .before .before .before .args .btext .now) (c .before .before .before .before .before .before .before .before .before .before .before .before .args .table .now) (c .before .before .before .before .before .before .before .before .before .before .before .before .args .k) (c .before .before .before .before .before .before .before .before .before .before .before .before .args .m) (c .before .before .before .before .before .before .before .before .before .before .before .before .args .i) (c .before .before .before .before .before .before .wide .ensures) (c .before .before .typeless .ensures) (c .before .before .before .before .match .keys2) (c .before .if1 .taken) (c .found2 .ensures)
+returns c =
+    let args = c .before .before .before .before .before .before .before .before .before .before .before .before .args in
+    let wide = c .before .before .before .before .before .before .wide in
+    let match = c .before .before .before .before .match in
+    at-port (args .text .now) (args .tape .now) (args .btext .now) (args .table .now) (args .k) (args .m) (args .i) (wide .ensures)
+    (c .before .before .typeless .ensures) (match .keys2) (c .before .if1 .taken) (c .found2 .ensures)
 
 mul-typeless-3 : tie.Need-mul-typeless-3
 mul-typeless-3 c = search needs
@@ -74,16 +79,32 @@ typeless-requires-2 : tie.Need-typeless-requires-2
 typeless-requires-2 c κs = search needs
 
 returns-2 : tie.Need-returns-2
-returns-2 c = at-environ (c .before .before .before .before .before .before .before .before .before .args .text .now) (c .before .before .before .before .before .before .before .before .before .args .tape .now) (c .before .before .before .before .before .before .before .before .before .args .btext .now) (c .before .before .before .before .before .before .before .before .before .args .table .now) (c .before .before .before .before .before .before .before .before .before .args .k) (c .before .before .before .before .before .before .before .before .before .args .m) (c .before .before .before .before .before .before .before .before .before .args .i) (c .before .before .before .wide .ensures) (c .before .match .keys1) (c .found .ensures)
+returns-2 c =
+    let args = c .before .before .before .before .before .before .before .before .before .args in
+    let wide = c .before .before .before .wide in
+    at-environ (args .text .now) (args .tape .now) (args .btext .now) (args .table .now) (args .k) (args .m) (args .i) (wide .ensures)
+    (c .before .match .keys1) (c .found .ensures)
 
 returns-3 : tie.Need-returns-3
-returns-3 c = at-typed (c .before .before .before .before .before .before .before .before .before .before .before .args .text .now) (c .before .before .before .before .before .before .before .before .before .before .before .args .tape .now) (c .before .before .before .before .before .before .before .before .before .before .before .args .btext .now) (c .before .before .before .before .before .before .before .before .before .before .before .args .table .now) (c .before .before .before .before .before .before .before .before .before .before .before .args .k) (c .before .before .before .before .before .before .before .before .before .before .before .args .m) (c .before .before .before .before .before .before .before .before .before .before .before .args .i) (c .before .before .before .before .before .wide .ensures) (c .before .typeless .ensures) (c .before .before .before .match .keys2) (c .if1 .left)
+returns-3 c =
+    let args = c .before .before .before .before .before .before .before .before .before .before .before .args in
+    let wide = c .before .before .before .before .before .wide in
+    let match = c .before .before .before .match in
+    at-typed (args .text .now) (args .tape .now) (args .btext .now) (args .table .now) (args .k) (args .m) (args .i) (wide .ensures)
+    (c .before .typeless .ensures) (match .keys2) (c .if1 .left)
 
 returns-4 : tie.Need-returns-4
-returns-4 c = at-memory (c .before .before .before .before .before .before .before .before .before .before .args .text .now) (c .before .before .before .before .before .before .before .before .before .before .args .tape .now) (c .before .before .before .before .before .before .before .before .before .before .args .btext .now) (c .before .before .before .before .before .before .before .before .before .before .args .table .now) (c .before .before .before .before .before .before .before .before .before .before .args .k) (c .before .before .before .before .before .before .before .before .before .before .args .m) (c .before .before .before .before .before .before .before .before .before .before .args .i) (c .before .before .before .before .wide .ensures) (c .typeless2 .ensures) (c .before .before .match .keys3)
+returns-4 c =
+    let args = c .before .before .before .before .before .before .before .before .before .before .args in
+    let wide = c .before .before .before .before .wide in
+    at-memory (args .text .now) (args .tape .now) (args .btext .now) (args .table .now) (args .k) (args .m) (args .i) (wide .ensures)
+    (c .typeless2 .ensures) (c .before .before .match .keys3)
 
 returns-5 : tie.Need-returns-5
-returns-5 c = at-none (c .before .before .before .before .before .before .before .before .args .text .now) (c .before .before .before .before .before .before .before .before .args .tape .now) (c .before .before .before .before .before .before .before .before .args .btext .now) (c .before .before .before .before .before .before .before .before .args .table .now) (c .before .before .before .before .before .before .before .before .args .k) (c .before .before .before .before .before .before .before .before .args .m) (c .before .before .before .before .before .before .before .before .args .i) (c .before .before .wide .ensures) (c .match .rest .0 .0 .1) (c .match .rest .0 .1) (c .match .rest .1)
+returns-5 c =
+    let args = c .before .before .before .before .before .before .before .before .args in
+    at-none (args .text .now) (args .tape .now) (args .btext .now) (args .table .now) (args .k) (args .m) (args .i) (c .before .before .wide .ensures)
+    (c .match .rest .0 .0 .1) (c .match .rest .0 .1) (c .match .rest .1)
 
 pub open-at-spec : {M : Type 1} → statement M
 open-at-spec =

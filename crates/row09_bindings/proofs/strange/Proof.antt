@@ -19,7 +19,13 @@ abbrev μ-loop : tie.MeasureT-loop
 μ-loop text tape many class btext table from to first₀ i₀ first i = i
 
 loop-holds : tie.Need-loop-holds Inv-loop μ-loop
-loop-holds c = (omega arith, omega arith, λ ps e. e ∙ lacks-none (between (c .before .before .before .before .args .text .now) (c .before .before .before .before .args .tape .now) (c .before .before .before .before .args .class) 0 (c .before .before .before .before .args .many)) (c .before .before .before .before .args .btext .now) (c .before .before .before .before .args .table .now) (c .before .before .before .before .args .to) ps)
+loop-holds c =
+    let args = c .before .before .before .before .args in (
+      omega arith,
+      omega arith,
+      λ ps e. e ∙ lacks-none (between (args .text .now) (args .tape .now) (args .class) 0 (args .many)) (args .btext .now)
+          (args .table .now) (args .to) ps,
+    )
 
 sub-i : tie.Need-sub-i Inv-loop μ-loop
 sub-i c = search needs
@@ -46,16 +52,44 @@ loop-less : tie.Need-loop-less Inv-loop μ-loop
 loop-less c = search needs
 
 loop-again : tie.Need-loop-again Inv-loop μ-loop
-loop-again c = (omega arith, omega arith, λ ps e. c .earlier .ensures ∙ lacks-more (between (c .before .before .before .before .before .before .before .before .before .before .before .args .text .now) (c .before .before .before .before .before .before .before .before .before .before .before .args .tape .now) (c .before .before .before .before .before .before .before .before .before .before .before .args .class) 0 (c .before .before .before .before .before .before .before .before .before .before .before .args .many)) (c .before .before .before .before .before .before .before .before .before .before .before .args .btext .now) (c .before .before .before .before .before .before .before .before .before .before .before .args .table .now) (c .before .before .before .before .before .before .before .before .before .before .before .args .to) ps (c .before .before .before .before .before .before .loop .i) (omega arith) (omega arith) (c .before .before .before .before .before .before .loop .inv .2 ps e) (ap (among (between (c .before .before .before .before .before .before .before .before .before .before .before .args .text .now) (c .before .before .before .before .before .before .before .before .before .before .before .args .tape .now) (c .before .before .before .before .before .before .before .before .before .before .before .args .class) 0 (c .before .before .before .before .before .before .before .before .before .before .before .args .many))) (sym (c .before .before .before .before .line-name .ensures)) ∙ sym (c .before .before .before .said .ensures) ∙ not-true _ (c .before .before .if1 .taken)))
+loop-again c =
+    let args = c .before .before .before .before .before .before .before .before .before .before .before .args in
+    let loop = c .before .before .before .before .before .before .loop in
+    let line-name = c .before .before .before .before .line-name in
+    let said = c .before .before .before .said in (
+      omega arith,
+      omega arith,
+      λ ps e. c .earlier .ensures ∙ lacks-more (between (args .text .now) (args .tape .now) (args .class) 0 (args .many))
+          (args .btext .now) (args .table .now) (args .to) ps (loop .i) (omega arith) (omega arith) (loop .inv .2 ps e)
+          (ap (among (between (args .text .now) (args .tape .now) (args .class) 0 (args .many))) (sym (line-name .ensures)) ∙ sym (said .ensures) ∙ not-true
+          _ (c .before .before .if1 .taken)),
+    )
 
 loop-less-2 : tie.Need-loop-less-2 Inv-loop μ-loop
 loop-less-2 c = search needs
 
 loop-again-2 : tie.Need-loop-again-2 Inv-loop μ-loop
-loop-again-2 c = (omega arith, omega arith, λ ps e. lacks-same (between (c .before .before .before .before .before .before .before .before .before .args .text .now) (c .before .before .before .before .before .before .before .before .before .args .tape .now) (c .before .before .before .before .before .before .before .before .before .args .class) 0 (c .before .before .before .before .before .before .before .before .before .args .many)) (c .before .before .before .before .before .before .before .before .before .args .btext .now) (c .before .before .before .before .before .before .before .before .before .args .table .now) (c .before .before .before .before .before .before .before .before .before .args .to) ps (c .before .before .before .before .loop .i) (omega arith) (omega arith) (c .before .before .before .before .loop .inv .2 ps e) (ap (among (between (c .before .before .before .before .before .before .before .before .before .args .text .now) (c .before .before .before .before .before .before .before .before .before .args .tape .now) (c .before .before .before .before .before .before .before .before .before .args .class) 0 (c .before .before .before .before .before .before .before .before .before .args .many))) (sym (c .before .before .line-name .ensures)) ∙ sym (c .before .said .ensures) ∙ not-false _ (c .if1 .left)))
+loop-again-2 c =
+    let args = c .before .before .before .before .before .before .before .before .before .args in
+    let loop = c .before .before .before .before .loop in (
+      omega arith,
+      omega arith,
+      λ ps e. lacks-same (between (args .text .now) (args .tape .now) (args .class) 0 (args .many)) (args .btext .now)
+          (args .table .now) (args .to) ps (loop .i) (omega arith) (omega arith) (loop .inv .2 ps e)
+          (ap (among (between (args .text .now) (args .tape .now) (args .class) 0 (args .many))) (sym (c .before .before .line-name .ensures)) ∙ sym
+          (c .before .said .ensures) ∙ not-false _ (c .if1 .left)),
+    )
 
 returns : tie.Need-returns Inv-loop μ-loop
-returns c = let e : c .before .loop .i ≡ c .before .before .before .before .before .before .args .from = omega arith in λ ps f. c .before .loop .inv .2 ps f ∙ ap (λ (i : ℕ). placeTold (earliest (Lacks (between (c .before .before .before .before .before .before .args .text .now) (c .before .before .before .before .before .before .args .tape .now) (c .before .before .before .before .before .before .args .class) 0 (c .before .before .before .before .before .before .args .many)) (c .before .before .before .before .before .before .args .btext .now) (c .before .before .before .before .before .before .args .table .now) (c .before .before .before .before .before .before .args .to) ps i))) e
+returns c =
+    let args = c .before .before .before .before .before .before .args in
+    let loop = c .before .loop in
+    let e : loop .i ≡ args .from = omega arith in
+    λ ps f. loop .inv .2 ps f ∙ ap
+    (λ (i : ℕ). placeTold
+    (earliest
+    (Lacks (between (args .text .now) (args .tape .now) (args .class) 0 (args .many)) (args .btext .now) (args .table .now) (args .to) ps i)))
+    e
 
 pub strange-spec : {M : Type 1} → statement M
 strange-spec =

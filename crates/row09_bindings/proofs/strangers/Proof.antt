@@ -25,7 +25,11 @@ strange-requires-2 : tie.Need-strange-requires-2
 strange-requires-2 c κs = search needs
 
 returns : tie.Need-returns
-returns c = λ ws a b h g. let e = strange-lines (c .before .before .before .before .before .before .args .text .now) (c .before .before .before .before .before .before .args .tape .now) (c .before .before .before .before .before .before .args .n) (c .before .before .before .before .before .before .args .n / 3) (c .before .before .before .before .before .before .pre .0) (omega arith) (omega arith) h g in c .strange2 .ensures _ (c .before .strange .ensures [] nowhere) ∙ e
+returns c =
+    let args = c .before .before .before .before .before .before .args in
+    let pre = c .before .before .before .before .before .before .pre in
+    λ ws a b h g. let e = strange-lines (args .text .now) (args .tape .now) (args .n) (args .n / 3) (pre .0) (omega arith) (omega arith) h g in
+    c .strange2 .ensures _ (c .before .strange .ensures [] nowhere) ∙ e
 
 pub strangers-spec : {M : Type 1} → statement M
 strangers-spec = tie.close (tie.spec add-strange strange-requires strange-requires-2 returns)

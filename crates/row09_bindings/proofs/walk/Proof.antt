@@ -45,10 +45,27 @@ loop-less : tie.Need-loop-less Inv-loop μ-loop
 loop-less c = search needs
 
 loop-again : tie.Need-loop-again Inv-loop μ-loop
-loop-again c = (omega arith, ⊎-elim (λ w. w .3 ∙ w .2 .ensures ∙ fault-more (λ (j : ℕ). openAt (c .before .before .before .before .before .before .before .before .args .text .now) (c .before .before .before .before .before .before .before .before .args .tape .now) (c .before .before .before .before .before .before .before .before .args .btext .now) (c .before .before .before .before .before .before .before .before .args .table .now) (c .before .before .before .before .before .before .before .before .args .k) (c .before .before .before .before .before .before .before .before .args .m) j) (c .before .before .before .before .before .before .before .before .args .tape .now) (c .before .before .before .loop .i) (c .before .before .before .loop .inv .1) (sym (c .before .open-at .ensures) ∙ w .0 .taken)) (λ w. w .1 ∙ fault-same (λ (j : ℕ). openAt (c .before .before .before .before .before .before .before .before .args .text .now) (c .before .before .before .before .before .before .before .before .args .tape .now) (c .before .before .before .before .before .before .before .before .args .btext .now) (c .before .before .before .before .before .before .before .before .args .table .now) (c .before .before .before .before .before .before .before .before .args .k) (c .before .before .before .before .before .before .before .before .args .m) j) (c .before .before .before .before .before .before .before .before .args .tape .now) (c .before .before .before .loop .i) (c .before .before .before .loop .inv .1) (sym (c .before .open-at .ensures) ∙ w .0 .left)) (c .if1 .came))
+loop-again c =
+    let args = c .before .before .before .before .before .before .before .before .args in
+    let loop = c .before .before .before .loop in
+    let open-at = c .before .open-at in (
+      omega arith,
+      ⊎-elim
+          (λ w. w .3 ∙ w .2 .ensures ∙ fault-more
+          (λ (j : ℕ). openAt (args .text .now) (args .tape .now) (args .btext .now) (args .table .now) (args .k) (args .m) j) (args .tape .now) (loop .i)
+          (loop .inv .1) (sym (open-at .ensures) ∙ w .0 .taken))
+          (λ w. w .1 ∙ fault-same (λ (j : ℕ). openAt (args .text .now) (args .tape .now) (args .btext .now) (args .table .now) (args .k) (args .m) j)
+          (args .tape .now) (loop .i) (loop .inv .1) (sym (open-at .ensures) ∙ w .0 .left))
+          (c .if1 .came),
+    )
 
 returns : tie.Need-returns Inv-loop μ-loop
-returns c = let e : c .before .loop .i ≡ c .before .before .before .before .before .before .args .many = omega arith in c .before .loop .inv .1 ∙ ap (λ (i : ℕ). placeTold (earliest (opensAt (c .before .before .before .before .before .before .args .text .now) (c .before .before .before .before .before .before .args .tape .now) (c .before .before .before .before .before .before .args .btext .now) (c .before .before .before .before .before .before .args .table .now) (c .before .before .before .before .before .before .args .k) (c .before .before .before .before .before .before .args .m) i))) e
+returns c =
+    let args = c .before .before .before .before .before .before .args in
+    let loop = c .before .loop in
+    let e : loop .i ≡ args .many = omega arith in
+    loop .inv .1 ∙ ap
+    (λ (i : ℕ). placeTold (earliest (opensAt (args .text .now) (args .tape .now) (args .btext .now) (args .table .now) (args .k) (args .m) i))) e
 
 pub walk-spec : {M : Type 1} → statement M
 walk-spec =

@@ -5,8 +5,8 @@ use mathlib.Core.Path.{_≡_, refl, _∙_}
 use Prim.Native.Nat.{_+_, _≤_, _-_, _*_}
 use lib.ListN.{length, take, length-set, length-take}
 use Rattle.typing.specs.Solved.{termsOf}
-use Rattle.row10_widths.specs.Codes.{env, Slotted}
-use Rattle.row10_widths.proofs.Slots.{no-slots, one-slot}
+use Rattle.type_nodes.specs.Codes.{env, Slotted}
+use Rattle.type_codes.proofs.Slots.{no-slots, one-slot}
 use Rattle.row10_widths.proofs.Whole.{few-declared, laid}
 use Rattle.row10_widths.proofs.solved.Statement.{statement}
 use Rattle.row10_widths.proofs.solved.Tie as tie
@@ -108,12 +108,21 @@ slice-aggregate-solve-4 c =
 
 solve-requires : tie.Need-solve-requires Inv-loop μ-loop
 solve-requires c κs =
-    let all = c .before .before .before .before .before .before .before .declared .result .ports + c .before .before .before .before .before .before .before .declared .result .memories in
+    let declared = c .before .before .before .before .before .before .before .declared in
+    let loop = c .before .before .before .before .before .loop in
+    let all = declared .result .ports + declared .result .memories in
     let s = c .before .before .before .before .before .before .before .before .before .before .before .before .before in
-    let l = c .before .before .before .before .before .loop in
+    let l = loop in
     let x = length-take all (s .args .widths .now) in
-    let y = length-take all (l .starts) in
-    ((termsOf (s .pre .1 .1) (s .pre .1 .2), (laid (s .args .text .now) (s .args .tape .now) (s .args .n) (s .args .btext .now) (s .args .table .now) (s .args .k) (s .args .m) (s .pre .0 .0) (s .pre .1 .3) (c .before .before .before .before .before .before .before .declared .ensures) (l .code) (l .starts) (l .ends) (l .i) (omega arith) (l .inv .7) (l .inv .4) (l .inv .5) (l .inv .6)) .coded), omega arith)
+    let y = length-take all (l .starts) in (
+      (
+        termsOf (s .pre .1 .1) (s .pre .1 .2),
+        (laid (s .args .text .now) (s .args .tape .now) (s .args .n) (s .args .btext .now) (s .args .table .now) (s .args .k) (s .args .m) (s .pre .0 .0)
+            (s .pre .1 .3) (declared .ensures) (l .code) (l .starts) (l .ends) (l .i) (omega arith) (l .inv .7) (l .inv .4) (l .inv .5)
+            (l .inv .6)) .coded,
+      ),
+      omega arith,
+    )
 
 same-length : tie.Need-same-length Inv-loop μ-loop
 same-length c = search needs

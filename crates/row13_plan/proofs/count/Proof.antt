@@ -4,9 +4,9 @@ use native.Mathlib.Omega.{arith}
 use Prim.Native.Nat.{_≤_, _-_, _+_, _*_}
 use mathlib.Core.Path.{_≡_}
 use mathlib.Core.Logic.{⊎-elim}
-use Rattle.row13_plan.specs.Made.{counted}
-use Rattle.row13_plan.specs.Sections.{itemsFrom}
-use Rattle.row13_plan.proofs.Items.{count-here, count-past, count-end}
+use Rattle.section_items.specs.Items.{counted}
+use Rattle.section_items.specs.Sections.{itemsFrom}
+use Rattle.section_items.proofs.Items.{count-here, count-past, count-end}
 use Rattle.row13_plan.proofs.count.Statement.{statement}
 use Rattle.row13_plan.proofs.count.Tie as tie
 
@@ -38,7 +38,13 @@ loop-less : tie.Need-loop-less Inv-loop μ-loop
 loop-less c = search needs
 
 loop-again : tie.Need-loop-again Inv-loop μ-loop
-loop-again c = ⊎-elim (λ w. (omega arith, omega arith, omega (arith, count-here (c .before .before .before .before .args .items .now) (c .before .before .before .before .args .n) (c .before .before .before .loop .i) (c .before .before .before .before .pre) (omega arith) (w .0 .taken)))) (λ w. (omega arith, omega arith, omega (arith, count-past (c .before .before .before .before .args .items .now) (c .before .before .before .before .args .n) (c .before .before .before .loop .i) (c .before .before .before .before .pre) (omega arith) (w .0 .left)))) (c .if1 .came)
+loop-again c =
+    let args = c .before .before .before .before .args in
+    let pre = c .before .before .before .before .pre in
+    let loop = c .before .before .before .loop in
+    ⊎-elim (λ w. (omega arith, omega arith, omega (arith, count-here (args .items .now) (args .n) (loop .i) (pre) (omega arith) (w .0 .taken))))
+    (λ w. (omega arith, omega arith, omega (arith, count-past (args .items .now) (args .n) (loop .i) (pre) (omega arith) (w .0 .left))))
+    (c .if1 .came)
 
 returns : tie.Need-returns Inv-loop μ-loop
 returns c = (omega (arith, count-end (c .before .before .args .items .now) (c .before .before .args .n) (c .before .loop .i) (c .before .before .pre) (omega arith) (c .before .before .args .op)), omega arith)

@@ -2,15 +2,26 @@
 use native.Mathlib.Omega.{arith}
 use Prim.Native.Nat.{_+_, _*_}
 use lib.ListN.{take}
-use Rattle.row13_plan.specs.Made.{itemsOf}
+use Rattle.section_items.specs.Items.{itemsOf}
 use Rattle.row13_plan.proofs.Whole.{Asked, plan-long, short-answer, short-table, room-ports, room-memories, room-groups, room-rules, room-code, whole-long, whole-table, whole-answer}
 use borrow.Author.Needs.{needs}
 use Rattle.row13_plan.proofs.made.Statement.{statement}
 use Rattle.row13_plan.proofs.made.Tie as tie
 
 -- the plan has as many numbers as were summed
-asked : (c : tie.After-count4) → Asked (itemsOf (take (c .before .before .before .before .before .before .before .before .args .n) (c .before .before .before .before .before .before .before .before .args .items .now))) (c .before .before .before .before .before .before .before .before .args .code .now) (c .before .before .before .before .before .before .before .before .args .lengths .now) (c .before .before .before .before .before .before .before .before .args .long) (c .before .before .before .before .before .before .before .before .args .plan .now) (6 + c .before .before .before .count .result + 2 * c .before .before .count2 .result + c .before .count3 .result + 3 * c .count4 .result + c .before .before .before .before .before .before .before .before .args .long)
-asked c = record { there = c .before .before .before .before .before .before .before .before .pre .1 .0; size = plan-long _ (c .before .before .before .before .before .before .before .before .args .code .now) (c .before .before .before .before .before .before .before .before .args .lengths .now) _ (c .before .before .before .before .before .before .before .before .pre .1 .0) (c .before .before .before .count .ensures .0) (c .before .before .count2 .ensures .0) (c .before .count3 .ensures .0) (c .count4 .ensures .0) }
+asked : (c : tie.After-count4)
+    → let args = c .before .before .before .before .before .before .before .before .args in
+    Asked (itemsOf (take (args .n) (args .items .now))) (args .code .now) (args .lengths .now) (args .long) (args .plan .now)
+    (6 + c .before .before .before .count .result + 2 * c .before .before .count2 .result + c .before .count3 .result + 3 * c .count4 .result + args .long)
+asked c =
+    let pre = c .before .before .before .before .before .before .before .before .pre in
+    let args = c .before .before .before .before .before .before .before .before .args in
+    let count = c .before .before .before .count in
+    record {
+      there = pre .1 .0;
+      size = plan-long _ (args .code .now) (args .lengths .now) _ (pre .1 .0) (count .ensures .0)
+          (c .before .before .count2 .ensures .0) (c .before .count3 .ensures .0) (c .count4 .ensures .0);
+    }
 
 count-requires : tie.Need-count-requires
 count-requires c κs = search needs
@@ -58,22 +69,81 @@ put-section-requires-2 : tie.Need-put-section-requires-2
 put-section-requires-2 c κs = (c .before .before .before .before .before .before .before .before .before .before .before .before .before .before .pre .0, room-memories (asked (c .before .before .before .before .before .before)) (c .before .before .before .before .before .if1 .left) (c .before .before .before .put-section .ensures))
 
 put-section-requires-3 : tie.Need-put-section-requires-3
-put-section-requires-3 c κs = (c .before .before .before .before .before .before .before .before .before .before .before .before .before .before .before .before .before .before .pre .0, room-groups (asked (c .before .before .before .before .before .before .before .before .before .before)) (c .before .before .before .before .before .before .before .before .before .if1 .left) (c .before .before .before .before .before .before .before .put-section .ensures) (c .before .before .before .put-section2 .ensures))
+put-section-requires-3 c κs =
+    let pre = c .before .before .before .before .before .before .before .before .before .before .before .before .before .before .before .before .before .before .pre in
+    let if1 = c .before .before .before .before .before .before .before .before .before .if1 in
+    let put-section = c .before .before .before .before .before .before .before .put-section in
+    let put-section2 = c .before .before .before .put-section2 in (
+      pre .0,
+      room-groups (asked (c .before .before .before .before .before .before .before .before .before .before)) (if1 .left) (put-section .ensures)
+          (put-section2 .ensures),
+    )
 
 put-section-requires-4 : tie.Need-put-section-requires-4
-put-section-requires-4 c κs = (c .before .before .before .before .before .before .before .before .before .before .before .before .before .before .before .before .before .before .before .before .before .before .pre .0, room-rules (asked (c .before .before .before .before .before .before .before .before .before .before .before .before .before .before)) (c .before .before .before .before .before .before .before .before .before .before .before .before .before .if1 .left) (c .before .before .before .before .before .before .before .before .before .before .before .put-section .ensures) (c .before .before .before .before .before .before .before .put-section2 .ensures) (c .before .before .before .put-section3 .ensures))
+put-section-requires-4 c κs =
+    let pre = c .before .before .before .before .before .before .before .before .before .before .before .before .before .before .before .before .before .before .before .before .before .before .pre in
+    let if1 = c .before .before .before .before .before .before .before .before .before .before .before .before .before .if1 in
+    let put-section = c .before .before .before .before .before .before .before .before .before .before .before .put-section in
+    let put-section2 = c .before .before .before .before .before .before .before .put-section2 in
+    let put-section3 = c .before .before .before .put-section3 in (
+      pre .0,
+      room-rules (asked (c .before .before .before .before .before .before .before .before .before .before .before .before .before .before))
+          (if1 .left) (put-section .ensures) (put-section2 .ensures) (put-section3 .ensures),
+    )
 
 put-code-requires : tie.Need-put-code-requires
-put-code-requires c κs = (c .before .before .before .before .before .before .before .before .before .before .before .before .before .before .before .before .before .before .before .before .before .before .before .before .before .before .pre .1 .0, c .before .before .before .before .before .before .before .before .before .before .before .before .before .before .before .before .before .before .before .before .before .before .before .before .before .before .pre .1 .1, room-code (asked (c .before .before .before .before .before .before .before .before .before .before .before .before .before .before .before .before .before .before)) (c .before .before .before .before .before .before .before .before .before .before .before .before .before .before .before .before .before .if1 .left) (c .before .before .before .before .before .before .before .before .before .before .before .before .before .before .before .put-section .ensures) (c .before .before .before .before .before .before .before .before .before .before .before .put-section2 .ensures) (c .before .before .before .before .before .before .before .put-section3 .ensures) (c .before .before .before .put-section4 .ensures))
+put-code-requires c κs =
+    let pre = c .before .before .before .before .before .before .before .before .before .before .before .before .before .before .before .before .before .before .before .before .before .before .before .before .before .before .pre in
+    let if1 = c .before .before .before .before .before .before .before .before .before .before .before .before .before .before .before .before .before .if1 in
+    let put-section = c .before .before .before .before .before .before .before .before .before .before .before .before .before .before .before .put-section in
+    let put-section2 = c .before .before .before .before .before .before .before .before .before .before .before .put-section2 in
+    let put-section3 = c .before .before .before .before .before .before .before .put-section3 in
+    let put-section4 = c .before .before .before .put-section4 in (
+      pre .1 .0,
+      pre .1 .1,
+      room-code
+          (asked
+          (c .before .before .before .before .before .before .before .before .before .before .before .before .before .before .before .before .before .before))
+          (if1 .left) (put-section .ensures) (put-section2 .ensures) (put-section3 .ensures) (put-section4 .ensures),
+    )
 
 cast-t36 : tie.Need-cast-t36
-cast-t36 c = omega (arith, c .before .before .before .before .before .before .before .before .before .before .before .before .before .before .before .before .before .before .before .before .before .before .before .before .count .ensures .1, c .before .before .before .before .before .before .before .before .before .before .before .before .before .before .before .before .before .before .before .before .before .before .before .count2 .ensures .1, c .before .before .before .before .before .before .before .before .before .before .before .before .before .before .before .before .before .before .before .before .before .before .count3 .ensures .1, c .before .before .before .before .before .before .before .before .before .before .before .before .before .before .before .before .before .before .before .before .before .count4 .ensures .1, c .before .before .before .before .before .before .before .before .before .before .before .before .before .before .before .before .before .before .before .before .before .before .before .before .before .before .before .before .before .pre .1 .1)
+cast-t36 c =
+    let pre = c .before .before .before .before .before .before .before .before .before .before .before .before .before .before .before .before .before .before .before .before .before .before .before .before .before .before .before .before .before .pre in
+    let count = c .before .before .before .before .before .before .before .before .before .before .before .before .before .before .before .before .before .before .before .before .before .before .before .before .count in
+    let count2 = c .before .before .before .before .before .before .before .before .before .before .before .before .before .before .before .before .before .before .before .before .before .before .before .count2 in
+    let count3 = c .before .before .before .before .before .before .before .before .before .before .before .before .before .before .before .before .before .before .before .before .before .before .count3 in
+    let count4 = c .before .before .before .before .before .before .before .before .before .before .before .before .before .before .before .before .before .before .before .before .before .count4 in
+    omega (arith, count .ensures .1, count2 .ensures .1, count3 .ensures .1, count4 .ensures .1, pre .1 .1)
 
 same-length : tie.Need-same-length
-same-length c = whole-long (asked (c .before .before .before .before .before .before .before .before .before .before .before .before .before .before .before .before .before .before .before .before .before)) (c .before .before .before .before .before .before .before .before .before .before .before .before .before .before .before .before .before .before .before .before .if1 .left) (c .before .before .before .before .before .before .before .before .before .before .before .before .before .before .before .before .before .before .put-section .ensures) (c .before .before .before .before .before .before .before .before .before .before .before .before .before .before .put-section2 .ensures) (c .before .before .before .before .before .before .before .before .before .before .put-section3 .ensures) (c .before .before .before .before .before .before .put-section4 .ensures) (c .before .before .put-code .ensures)
+same-length c =
+    let if1 = c .before .before .before .before .before .before .before .before .before .before .before .before .before .before .before .before .before .before .before .before .if1 in
+    let put-section = c .before .before .before .before .before .before .before .before .before .before .before .before .before .before .before .before .before .before .put-section in
+    let put-section2 = c .before .before .before .before .before .before .before .before .before .before .before .before .before .before .put-section2 in
+    let put-section3 = c .before .before .before .before .before .before .before .before .before .before .put-section3 in
+    let put-section4 = c .before .before .before .before .before .before .put-section4 in
+    whole-long
+    (asked
+    (c .before .before .before .before .before .before .before .before .before .before .before .before .before .before .before .before .before .before .before .before .before))
+    (if1 .left) (put-section .ensures) (put-section2 .ensures) (put-section3 .ensures) (put-section4 .ensures) (c .before .before .put-code .ensures)
 
 returns-2 : tie.Need-returns-2
-returns-2 c = (whole-answer (asked (c .before .before .before .before .before .before .before .before .before .before .before .before .before .before .before .before .before .before .before .before .before)) (c .before .before .before .before .before .before .before .before .before .before .before .before .before .before .before .before .before .before .before .before .if1 .left), whole-table (asked (c .before .before .before .before .before .before .before .before .before .before .before .before .before .before .before .before .before .before .before .before .before)) (c .before .before .before .before .before .before .before .before .before .before .before .before .before .before .before .before .before .before .before .before .if1 .left) (c .before .before .before .before .before .before .before .before .before .before .before .before .before .before .before .before .before .before .put-section .ensures) (c .before .before .before .before .before .before .before .before .before .before .before .before .before .before .put-section2 .ensures) (c .before .before .before .before .before .before .before .before .before .before .put-section3 .ensures) (c .before .before .before .before .before .before .put-section4 .ensures) (c .before .before .put-code .ensures))
+returns-2 c =
+    let if1 = c .before .before .before .before .before .before .before .before .before .before .before .before .before .before .before .before .before .before .before .before .if1 in
+    let put-section = c .before .before .before .before .before .before .before .before .before .before .before .before .before .before .before .before .before .before .put-section in
+    let put-section2 = c .before .before .before .before .before .before .before .before .before .before .before .before .before .before .put-section2 in
+    let put-section3 = c .before .before .before .before .before .before .before .before .before .before .put-section3 in
+    let put-section4 = c .before .before .before .before .before .before .put-section4 in (
+      whole-answer
+          (asked
+          (c .before .before .before .before .before .before .before .before .before .before .before .before .before .before .before .before .before .before .before .before .before))
+          (if1 .left),
+      whole-table
+          (asked
+          (c .before .before .before .before .before .before .before .before .before .before .before .before .before .before .before .before .before .before .before .before .before))
+          (if1 .left) (put-section .ensures) (put-section2 .ensures) (put-section3 .ensures) (put-section4 .ensures) (c .before .before .put-code .ensures),
+    )
 
 pub made-spec : {M : Type 1} → statement M
 made-spec =

@@ -53,7 +53,15 @@ loop-less : tie.Need-loop-less Inv-loop μ-loop
 loop-less c = search needs
 
 loop-again : tie.Need-loop-again Inv-loop μ-loop
-loop-again c = (omega arith, length-set (c .before .before .loop .plan) (c .before .before .before .args .from + 1 + c .before .before .loop .i) (getD (c .before .before .before .args .code .now) (c .before .before .loop .i) 0) ∙ c .before .before .loop .inv .1, code-more (c .before .before .before .args .code .now) (c .before .before .before .args .long) (c .before .before .before .args .from + 1) (c .before .before .before .pre .0) (c .before .before .loop .i) (c .before .before .loop .plan) (omega arith) ∙ c .before .before .loop .inv .2)
+loop-again c =
+    let args = c .before .before .before .args in
+    let pre = c .before .before .before .pre in
+    let loop = c .before .before .loop in (
+      omega arith,
+      length-set (loop .plan) (args .from + 1 + loop .i) (getD (args .code .now) (loop .i) 0) ∙ loop .inv .1,
+      code-more (args .code .now)
+          (args .long) (args .from + 1) (pre .0) (loop .i) (loop .plan) (omega arith) ∙ loop .inv .2,
+    )
 
 same-length : tie.Need-same-length Inv-loop μ-loop
 same-length c = omega (arith, length-set (c .before .before .args .plan .now) (c .before .before .args .from) (c .before .before .args .long))

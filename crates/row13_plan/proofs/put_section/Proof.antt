@@ -27,7 +27,10 @@ mul-plan : tie.Need-mul-plan Inv-loop μ-loop
 mul-plan c = search needs
 
 slice-write-plan : tie.Need-slice-write-plan Inv-loop μ-loop
-slice-write-plan c = omega (arith, section-room (c .before .before .before .before .before .args .section) (c .before .before .before .before .before .args .items .now) (c .before .before .before .before .before .args .n) (c .before .before .before .before .before .args .lengths .now) (c .before .mark .ensures) (c .before .before .before .before .before .args .from) (c .before .before .before .before .before .pre .1))
+slice-write-plan c =
+    let args = c .before .before .before .before .before .args in
+    let pre = c .before .before .before .before .before .pre in
+    omega (arith, section-room (args .section) (args .items .now) (args .n) (args .lengths .now) (c .before .mark .ensures) (args .from) (pre .1))
 
 add-at : tie.Need-add-at Inv-loop μ-loop
 add-at c = search needs
@@ -45,7 +48,24 @@ shared-slice-read-if1 : tie.Need-shared-slice-read-if1 Inv-loop μ-loop
 shared-slice-read-if1 c = search needs
 
 put-item-requires : tie.Need-put-item-requires Inv-loop μ-loop
-put-item-requires c κs = (c .before .before .before .before .before .before .before .before .before .before .pre .0, (omega arith, turn-room (c .before .before .before .before .before .before .before .before .before .before .pre .0) (c .before .before .before .before .loop .inv .2) (omega arith) (c .before .if1 .taken) (omega (arith, section-room (c .before .before .before .before .before .before .before .before .before .before .args .section) (c .before .before .before .before .before .before .before .before .before .before .args .items .now) (c .before .before .before .before .before .before .before .before .before .before .args .n) (c .before .before .before .before .before .before .before .before .before .before .args .lengths .now) (c .before .before .before .before .before .before .mark .ensures) (c .before .before .before .before .before .before .before .before .before .before .args .from) (c .before .before .before .before .before .before .before .before .before .before .pre .1), c .before .before .before .before .loop .inv .2 .long, length-set (c .before .before .before .before .before .before .before .before .before .before .args .plan .now) (c .before .before .before .before .before .before .before .before .before .before .args .from) (c .before .before .before .before .before .count .result)))))
+put-item-requires c κs =
+    let pre = c .before .before .before .before .before .before .before .before .before .before .pre in
+    let args = c .before .before .before .before .before .before .before .before .before .before .args in
+    let mark = c .before .before .before .before .before .before .mark in
+    let count = c .before .before .before .before .before .count in
+    let loop = c .before .before .before .before .loop in (
+      pre .0,
+      (
+        omega arith,
+        turn-room (pre .0) (loop .inv .2) (omega arith) (c .before .if1 .taken)
+            (omega (
+              arith,
+              section-room (args .section) (args .items .now) (args .n) (args .lengths .now) (mark .ensures) (args .from) (pre .1),
+              loop .inv .2 .long,
+              length-set (args .plan .now) (args .from) (count .result),
+            )),
+      ),
+    )
 
 add-k : tie.Need-add-k Inv-loop μ-loop
 add-k c = search needs
@@ -57,13 +77,23 @@ loop-less : tie.Need-loop-less Inv-loop μ-loop
 loop-less c = search needs
 
 loop-again : tie.Need-loop-again Inv-loop μ-loop
-loop-again c = ⊎-elim (λ w. (omega arith, omega arith, turn-as (w .5) (w .6) (w .7) (turn-more (c .before .before .before .before .before .before .before .before .before .pre .0) (c .before .before .before .loop .inv .2) (omega arith) (w .0 .taken) (w .2 .ensures)))) (λ w. (omega arith, omega arith, turn-as (w .1) (w .2) (w .3) (turn-past (c .before .before .before .before .before .before .before .before .before .pre .0) (c .before .before .before .loop .inv .2) (omega arith) (w .0 .left)))) (c .if1 .came)
+loop-again c =
+    let pre = c .before .before .before .before .before .before .before .before .before .pre in
+    let loop = c .before .before .before .loop in
+    ⊎-elim
+    (λ w. (omega arith, omega arith, turn-as (w .5) (w .6) (w .7) (turn-more (pre .0) (loop .inv .2) (omega arith) (w .0 .taken) (w .2 .ensures))))
+    (λ w. (omega arith, omega arith, turn-as (w .1) (w .2) (w .3) (turn-past (pre .0) (loop .inv .2) (omega arith) (w .0 .left)))) (c .if1 .came)
 
 same-length : tie.Need-same-length Inv-loop μ-loop
 same-length c = omega (arith, c .before .loop .inv .2 .long, length-set (c .before .before .before .before .before .before .before .args .plan .now) (c .before .before .before .before .before .before .before .args .from) (c .before .before .count .result))
 
 returns : tie.Need-returns Inv-loop μ-loop
-returns c = section-put (c .before .before .before .before .before .before .before .args .section) (c .before .before .before .before .before .before .before .args .items .now) (c .before .before .before .before .before .before .before .args .n) (c .before .before .before .before .before .before .before .args .lengths .now) (c .before .before .before .mark .ensures) (c .before .before .before .before .before .before .before .pre .0) (c .before .before .count .ensures .0) (c .before .loop .inv .2) (omega arith)
+returns c =
+    let args = c .before .before .before .before .before .before .before .args in
+    let pre = c .before .before .before .before .before .before .before .pre in
+    let mark = c .before .before .before .mark in
+    section-put (args .section) (args .items .now) (args .n) (args .lengths .now) (mark .ensures) (pre .0) (c .before .before .count .ensures .0)
+    (c .before .loop .inv .2) (omega arith)
 
 pub put-section-spec : {M : Type 1} → statement M
 put-section-spec =

@@ -10,8 +10,8 @@ use lib.Seq.{length-take-le}
 use Rattle.tape.specs.Walk.{namesOn}
 use Rattle.laws.specs.Tables.{Kept}
 use Rattle.laws.proofs.Tables.{kept-same, kept-on}
-use Rattle.settle.specs.Walk.{State, walked, start, aroundOf}
-use Rattle.settle.specs.Tables.{waiting, Ordered, stateOf, Bounded}
+use Rattle.item_writes.specs.Walk.{State, walked, start, aroundOf}
+use Rattle.item_writes.specs.Tables.{waiting, Ordered, stateOf, Bounded}
 use Rattle.settle.proofs.Turns.{walked-next}
 use Rattle.settle.proofs.walk.Statement.{statement}
 use Rattle.settle.proofs.walk.Tie as tie
@@ -37,8 +37,10 @@ slice-aggregate-step-2 c = search needs
 
 step-requires : tie.Need-step-requires Inv-loop μ-loop
 step-requires c κs =
-    let l = c .before .before .before .before .before .loop .inv in
-    (c .before .before .before .before .before .before .before .before .before .before .before .before .before .pre .0, c .before .before .before .before .before .before .before .before .before .before .before .before .before .pre .1, c .before .before .before .if1 .taken, c .before .before .before .before .before .before .before .before .before .before .before .before .before .pre .2, l .1, l .2, omega (arith, c .before .before .before .before .before .before .before .before .before .before .before .before .before .pre .3, l .3, c .before .before .before .if1 .taken), l .4)
+    let pre = c .before .before .before .before .before .before .before .before .before .before .before .before .before .pre in
+    let loop = c .before .before .before .before .before .loop in
+    let if1 = c .before .before .before .if1 in
+    let l = loop .inv in (pre .0, pre .1, if1 .taken, pre .2, l .1, l .2, omega (arith, pre .3, l .3, if1 .taken), l .4)
 
 add-i : tie.Need-add-i Inv-loop μ-loop
 add-i c = omega (arith, c .before .before .before .before .before .before .before .before .if1 .taken, c .before .before .before .before .before .before .before .before .before .before .before .before .before .before .before .before .before .before .pre .1)
@@ -48,9 +50,19 @@ loop-less c = omega (arith, c .before .before .before .before .before .before .b
 
 loop-again : tie.Need-loop-again Inv-loop μ-loop
 loop-again c =
-    let l = c .before .before .before .before .before .before .before .before .before .before .loop .inv in
-    let k = c .before .before .before .before .step .kept in
-    (omega (arith, c .before .before .before .before .before .before .before .before .if1 .taken), k .1 .1 .1 .1 .1 .1 .1 .0 ∙ l .1, k .1 .1 .1 .1 .1 .1 .1 .1 .0 ∙ l .2, k .1 .1 .1 .1 .1 .1 .1 .1 .1 .0 ∙ l .3, c .before .before .before .before .step .ensures .0, kept-on (l .5) (c .before .before .before .before .step .ensures .1), walked-next _ _ _ _ _ (l .6) (c .before .before .before .before .step .ensures .2))
+    let loop = c .before .before .before .before .before .before .before .before .before .before .loop in
+    let if1 = c .before .before .before .before .before .before .before .before .if1 in
+    let step = c .before .before .before .before .step in
+    let l = loop .inv in
+    let k = step .kept in (
+      omega (arith, if1 .taken),
+      k .1 .1 .1 .1 .1 .1 .1 .0 ∙ l .1,
+      k .1 .1 .1 .1 .1 .1 .1 .1 .0 ∙ l .2,
+      k .1 .1 .1 .1 .1 .1 .1 .1 .1 .0 ∙ l .3,
+      step .ensures .0,
+      kept-on (l .5) (step .ensures .1),
+      walked-next _ _ _ _ _ (l .6) (step .ensures .2),
+    )
 
 same-length : tie.Need-same-length Inv-loop μ-loop
 same-length c = c .before .before .loop .inv .3

@@ -38,7 +38,13 @@ shared-slice-read-if2 : tie.Need-shared-slice-read-if2 Inv-loop μ-loop
 shared-slice-read-if2 c = search needs
 
 returns-2 : tie.Need-returns-2 Inv-loop μ-loop
-returns-2 c = sym (same-here (rowOf (c .before .before .before .before .before .before .before .before .args .row)) (c .before .before .before .before .before .before .before .before .args .run .now) (c .before .before .before .before .loop .i) (omega arith) (omega arith) (λ e. c .if2 .taken (c .before .before .cell2 .ensures ∙ next-of _ (rowOf (c .before .before .before .before .before .before .before .before .args .row)) (c .before .before .before .before .loop .i) ∙ e))) ∙ c .before .before .before .before .loop .inv .2
+returns-2 c =
+    let args = c .before .before .before .before .before .before .before .before .args in
+    let loop = c .before .before .before .before .loop in
+    sym
+    (same-here (rowOf (args .row)) (args .run .now) (loop .i) (omega arith) (omega arith)
+    (λ e. c .if2 .taken (c .before .before .cell2 .ensures ∙ next-of _ (rowOf (args .row)) (loop .i) ∙ e)))
+    ∙ loop .inv .2
 
 add-i : tie.Need-add-i Inv-loop μ-loop
 add-i c = search needs
@@ -47,7 +53,16 @@ loop-less : tie.Need-loop-less Inv-loop μ-loop
 loop-less c = search needs
 
 loop-again : tie.Need-loop-again Inv-loop μ-loop
-loop-again c = (omega arith, c .before .before .before .before .loop .inv .1, sym (same-next (rowOf (c .before .before .before .before .before .before .before .before .args .row)) (c .before .before .before .before .before .before .before .before .args .run .now) (c .before .before .before .before .loop .i) (omega arith) (omega arith) (sym (next-of _ (rowOf (c .before .before .before .before .before .before .before .before .args .row)) (c .before .before .before .before .loop .i)) ∙ sym (c .before .before .cell2 .ensures) ∙ c .if2 .left)) ∙ c .before .before .before .before .loop .inv .2)
+loop-again c =
+    let args = c .before .before .before .before .before .before .before .before .args in
+    let loop = c .before .before .before .before .loop in (
+      omega arith,
+      loop .inv .1,
+      sym
+          (same-next (rowOf (args .row)) (args .run .now) (loop .i) (omega arith) (omega arith)
+          (sym (next-of _ (rowOf (args .row)) (loop .i)) ∙ sym (c .before .before .cell2 .ensures) ∙ c .if2 .left))
+          ∙ loop .inv .2,
+    )
 
 returns-3 : tie.Need-returns-3 Inv-loop μ-loop
 returns-3 c = sym (same-over (rowOf (c .before .before .before .before .before .args .row)) (c .before .before .before .before .before .args .run .now) (c .before .loop .i) (omega arith) (omega arith)) ∙ c .before .loop .inv .2

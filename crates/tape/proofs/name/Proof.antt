@@ -1,5 +1,5 @@
 -- `tape::name` meets its contract: the run at a place is the part that is as long. Assumes nothing.
-use Rattle.words.proofs.Bytes.{part-name}
+use Rattle.spans.proofs.Spans.{part-name}
 use borrow.Author.Needs.{needs}
 use Rattle.tape.proofs.name.Statement.{statement}
 use Rattle.tape.proofs.name.Tie as tie

@@ -68,19 +68,52 @@ same-bytes-requires : tie.Need-same-bytes-requires Inv-loop μ-loop
 same-bytes-requires c κs = search needs
 
 returns : tie.Need-returns Inv-loop μ-loop
-returns c = said-here (c .before .before .before .before .before .before .before .before .before .before .before .before .before .before .args .text .now) (c .before .before .before .before .before .before .before .before .before .before .before .before .before .before .args .tape .now) (c .before .before .before .before .before .before .before .before .before .before .before .before .before .before .args .class) (c .before .before .before .before .before .before .before .before .before .before .before .before .before .before .args .from) (c .before .before .before .before .before .before .before .before .before .before .before .before .before .before .args .called .now) (c .before .before .before .before .before .before .before .before .before .before .loop .i) (c .before .before .before .before .before .before .before .before .before .loop-test .taken) (sym (c .before .before .before .before .before .before .is .ensures) ∙ c .before .before .before .before .before .if1 .taken) (ap (λ (l : List ℕ). same l (c .before .before .before .before .before .before .before .before .before .before .before .before .before .before .args .called .now)) (sym (c .before .before .name .ensures ∙ ap (nameFrom (c .before .before .before .before .before .before .before .before .before .before .before .before .before .before .args .text .now)) (c .before .before .before .wide .ensures))) ∙ sym (c .before .same-bytes .ensures) ∙ c .if2 .taken) ∙ c .before .before .before .before .before .before .before .before .before .before .loop .inv .2
+returns c =
+    let args = c .before .before .before .before .before .before .before .before .before .before .before .before .before .before .args in
+    let loop = c .before .before .before .before .before .before .before .before .before .before .loop in
+    let loop-test = c .before .before .before .before .before .before .before .before .before .loop-test in
+    let is = c .before .before .before .before .before .before .is in
+    let if1 = c .before .before .before .before .before .if1 in
+    let wide = c .before .before .before .wide in
+    said-here (args .text .now) (args .tape .now) (args .class) (args .from) (args .called .now) (loop .i) (loop-test .taken)
+    (sym (is .ensures) ∙ if1 .taken)
+    (ap (λ (l : List ℕ). same l (args .called .now)) (sym (c .before .before .name .ensures ∙ ap (nameFrom (args .text .now)) (wide .ensures))) ∙ sym
+    (c .before .same-bytes .ensures) ∙ c .if2 .taken)
+    ∙ loop .inv .2
 
 loop-less : tie.Need-loop-less Inv-loop μ-loop
 loop-less c = search needs
 
 loop-again : tie.Need-loop-again Inv-loop μ-loop
-loop-again c = (omega arith, omega arith, said-next (c .before .before .before .before .before .before .before .before .before .before .before .before .before .before .args .text .now) (c .before .before .before .before .before .before .before .before .before .before .before .before .before .before .args .tape .now) (c .before .before .before .before .before .before .before .before .before .before .before .before .before .before .args .class) (c .before .before .before .before .before .before .before .before .before .before .before .before .before .before .args .from) (c .before .before .before .before .before .before .before .before .before .before .before .before .before .before .args .called .now) (c .before .before .before .before .before .before .before .before .before .before .loop .i) (c .before .before .before .before .before .before .before .before .before .loop-test .taken) (sym (c .before .before .before .before .before .before .is .ensures) ∙ c .before .before .before .before .before .if1 .taken) (ap (λ (l : List ℕ). same l (c .before .before .before .before .before .before .before .before .before .before .before .before .before .before .args .called .now)) (sym (c .before .before .name .ensures ∙ ap (nameFrom (c .before .before .before .before .before .before .before .before .before .before .before .before .before .before .args .text .now)) (c .before .before .before .wide .ensures))) ∙ sym (c .before .same-bytes .ensures) ∙ c .if2 .left) ∙ c .before .before .before .before .before .before .before .before .before .before .loop .inv .2)
+loop-again c =
+    let args = c .before .before .before .before .before .before .before .before .before .before .before .before .before .before .args in
+    let loop = c .before .before .before .before .before .before .before .before .before .before .loop in
+    let loop-test = c .before .before .before .before .before .before .before .before .before .loop-test in
+    let is = c .before .before .before .before .before .before .is in
+    let if1 = c .before .before .before .before .before .if1 in
+    let wide = c .before .before .before .wide in (
+      omega arith,
+      omega arith,
+      said-next (args .text .now) (args .tape .now) (args .class) (args .from) (args .called .now) (loop .i) (loop-test .taken)
+          (sym (is .ensures) ∙ if1 .taken)
+          (ap (λ (l : List ℕ). same l (args .called .now)) (sym (c .before .before .name .ensures ∙ ap (nameFrom (args .text .now)) (wide .ensures))) ∙ sym
+          (c .before .same-bytes .ensures) ∙ c .if2 .left)
+          ∙ loop .inv .2,
+    )
 
 loop-less-2 : tie.Need-loop-less-2 Inv-loop μ-loop
 loop-less-2 c = search needs
 
 loop-again-2 : tie.Need-loop-again-2 Inv-loop μ-loop
-loop-again-2 c = (omega arith, omega arith, said-other (c .before .before .before .before .before .before .before .before .before .args .text .now) (c .before .before .before .before .before .before .before .before .before .args .tape .now) (c .before .before .before .before .before .before .before .before .before .args .class) (c .before .before .before .before .before .before .before .before .before .args .from) (c .before .before .before .before .before .before .before .before .before .args .called .now) (c .before .before .before .before .before .loop .i) (c .before .before .before .before .loop-test .taken) (sym (c .before .is .ensures) ∙ c .if1 .left) ∙ c .before .before .before .before .before .loop .inv .2)
+loop-again-2 c =
+    let args = c .before .before .before .before .before .before .before .before .before .args in
+    let loop = c .before .before .before .before .before .loop in
+    let loop-test = c .before .before .before .before .loop-test in (
+      omega arith,
+      omega arith,
+      said-other (args .text .now) (args .tape .now) (args .class) (args .from) (args .called .now) (loop .i)
+          (loop-test .taken) (sym (c .before .is .ensures) ∙ c .if1 .left) ∙ loop .inv .2,
+    )
 
 returns-2 : tie.Need-returns-2 Inv-loop μ-loop
 returns-2 c = said-none (c .before .before .before .before .before .args .text .now) (c .before .before .before .before .before .args .tape .now) (c .before .before .before .before .before .args .class) (c .before .before .before .before .before .args .from) (c .before .before .before .before .before .args .called .now) (c .before .loop .i) (omega arith) ∙ c .before .loop .inv .2

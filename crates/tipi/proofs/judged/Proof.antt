@@ -15,7 +15,11 @@ enum-told : tie.Need-enum-told
 enum-told c = search needs
 
 planned-requires : tie.Need-planned-requires
-planned-requires c κs = let h = c .before .before .before .before .before .before .before .before .before .pre .1 .3 in (c .before .before .before .before .before .before .before .before .before .pre .0, (c .before .before .before .before .before .before .before .before .before .pre .1 .0, c .before .before .before .before .before .before .before .before .before .pre .1 .1, c .before .before .before .before .before .before .before .before .before .pre .1 .2, heard h (judged-through _ _ _ (sym (c .before .enum-told .given .1) ∙ c .before .before .before .first .ensures _ _ _ h))))
+planned-requires c κs =
+    let pre = c .before .before .before .before .before .before .before .before .before .pre in
+    let first = c .before .before .before .first in
+    let h = pre .1 .3 in
+    (pre .0, (pre .1 .0, pre .1 .1, pre .1 .2, heard h (judged-through _ _ _ (sym (c .before .enum-told .given .1) ∙ first .ensures _ _ _ h))))
 
 returns : tie.Need-returns
 returns c = λ ws a b h. stopped-after _ _ (sym (c .before .row .given .1) ∙ c .before .before .before .first .ensures ws a b h)

@@ -38,7 +38,13 @@ cast-worded-2 : tie.Need-cast-worded-2
 cast-worded-2 c = search needs
 
 worded-requires : tie.Need-worded-requires
-worded-requires c κs = let q = bindings-filled (c .before .before .before .before .before .before .before .before .before .before .before .before .before .args .text .now) (c .before .before .before .before .before .before .before .before .before .before .before .before .before .args .bindings .now) (replicate 96 0) (c .before .before .before .before .before .before .read .ensures .0) (c .before .before .before .before .before .before .read .ensures .1) (c .before .before .before .k .given .1) in ((c .before .before .before .before .before .before .before .before .before .if1 .left, q .room), (q .bindings, q .binds))
+worded-requires c κs =
+    let args = c .before .before .before .before .before .before .before .before .before .before .before .before .before .args in
+    let if1 = c .before .before .before .before .before .before .before .before .before .if1 in
+    let the-read = c .before .before .before .before .before .before .read in
+    let k = c .before .before .before .k in
+    let q = bindings-filled (args .text .now) (args .bindings .now) (replicate 96 0) (the-read .ensures .0) (the-read .ensures .1) (k .given .1) in
+    ((if1 .left, q .room), (q .bindings, q .binds))
 
 enum-known-p : tie.Need-enum-known-p
 enum-known-p c = search needs
@@ -50,13 +56,36 @@ same-length : tie.Need-same-length
 same-length c = search needs
 
 returns-3 : tie.Need-returns-3
-returns-3 c = let q = bindings-filled (c .before .before .before .before .before .before .before .before .before .before .before .before .before .before .before .before .args .text .now) (c .before .before .before .before .before .before .before .before .before .before .before .before .before .before .before .before .args .bindings .now) (replicate 96 0) (c .before .before .before .before .before .before .before .before .before .read .ensures .0) (c .before .before .before .before .before .before .before .before .before .read .ensures .1) (c .before .before .before .before .before .before .k .given .1) in after-read _ _ (after-as (bindings-bound _ _ (q .bindings) (c .before .before .before .before .before .before .before .before .before .before .before .before .if1 .left) (c .before .before .before .before .before .before .before .before .before .before .before .if2 .left) (q .binds .reads)) (c .before .before .worded .ensures (q .bindings) (q .binds)))
+returns-3 c =
+    let args = c .before .before .before .before .before .before .before .before .before .before .before .before .before .before .before .before .args in
+    let if1 = c .before .before .before .before .before .before .before .before .before .before .before .before .if1 in
+    let if2 = c .before .before .before .before .before .before .before .before .before .before .before .if2 in
+    let the-read = c .before .before .before .before .before .before .before .before .before .read in
+    let k = c .before .before .before .before .before .before .k in
+    let q = bindings-filled (args .text .now) (args .bindings .now) (replicate 96 0) (the-read .ensures .0) (the-read .ensures .1) (k .given .1) in
+    after-read _ _
+    (after-as (bindings-bound _ _ (q .bindings) (if1 .left) (if2 .left) (q .binds .reads))
+    (c .before .before .worded .ensures (q .bindings) (q .binds)))
 
 returns-4 : tie.Need-returns-4
-returns-4 c = after-read _ _ (bindings-wrong (c .before .before .before .before .before .before .before .before .before .before .before .args .text .now) (c .before .before .before .before .before .before .before .before .before .before .before .args .bindings .now) (replicate 96 0) (c .before .before .before .before .before .before .before .if1 .left) (c .before .before .before .before .before .before .if2 .left) (search needs) _ (c .before .before .before .before .read .ensures .0) (c .before .p .given .1))
+returns-4 c =
+    let args = c .before .before .before .before .before .before .before .before .before .before .before .args in
+    let if1 = c .before .before .before .before .before .before .before .if1 in
+    let if2 = c .before .before .before .before .before .before .if2 in
+    let the-read = c .before .before .before .before .read in
+    after-read _ _
+    (bindings-wrong (args .text .now) (args .bindings .now) (replicate 96 0) (if1 .left) (if2 .left) (search needs) _ (the-read .ensures .0)
+    (c .before .p .given .1))
 
 returns-5 : tie.Need-returns-5
-returns-5 c = absurd (never-no-room (c .before .before .before .before .before .before .before .before .before .before .args .text .now) (c .before .before .before .before .before .before .before .before .before .before .args .bindings .now) (replicate 96 0) (c .before .before .before .before .before .before .if1 .left) (c .before .before .before .before .before .if2 .left) (search needs) (c .before .before .before .read .ensures .0) (c .enum-told .given .1))
+returns-5 c =
+    let args = c .before .before .before .before .before .before .before .before .before .before .args in
+    let if1 = c .before .before .before .before .before .before .if1 in
+    let if2 = c .before .before .before .before .before .if2 in
+    let the-read = c .before .before .before .read in
+    absurd
+    (never-no-room (args .text .now) (args .bindings .now) (replicate 96 0) (if1 .left) (if2 .left) (search needs) (the-read .ensures .0)
+    (c .enum-told .given .1))
 
 pub read-spec : {M : Type 1} → statement M
 read-spec =

@@ -22,7 +22,16 @@ cast-judged : tie.Need-cast-judged
 cast-judged c = search needs
 
 judged-requires : tie.Need-judged-requires
-judged-requires c κs = let q = few-numbers (c .before .before .before .before .before .read .ensures .1 .1) (c .before .before .before .n .given .1) in let l = tape-size (c .before .before .before .before .before .before .before .before .before .before .before .args .text .now) (replicate 24576 0) (length-replicate {A = ℕ} 24576 0) (c .before .before .before .before .before .read .ensures .1 .0) in let M = met (c .before .before .before .before .before .before .before .before .before .before .before .args .text .now) (replicate 24576 0) (c .before .before .before .before .before .before .before .before .before .before .before .pre .0 .0) (length-replicate {A = ℕ} 24576 0) (c .before .before .before .before .before .read .ensures .0) (c .before .before .before .before .before .read .ensures .1 .0) (c .before .before .before .before .before .read .ensures .1 .1) (c .before .before .before .n .given .1) (c .before .before .before .before .before .before .before .before .before .before .before .pre .1 .1) in ((omega (arith, q, l), q, c .before .before .before .before .before .before .before .before .before .before .before .pre .0 .1), (M .ws, M .actor, c .before .before .before .before .before .before .before .before .before .before .before .pre .1 .0, M .held))
+judged-requires c κs =
+    let args = c .before .before .before .before .before .before .before .before .before .before .before .args in
+    let pre = c .before .before .before .before .before .before .before .before .before .before .before .pre in
+    let read = c .before .before .before .before .before .read in
+    let n = c .before .before .before .n in
+    let q = few-numbers (read .ensures .1 .1) (n .given .1) in
+    let l = tape-size (args .text .now) (replicate 24576 0) (length-replicate {A = ℕ} 24576 0) (read .ensures .1 .0) in
+    let M = met (args .text .now) (replicate 24576 0) (pre .0 .0) (length-replicate {A = ℕ} 24576 0) (read .ensures .0) (read .ensures .1 .0)
+    (read .ensures .1 .1) (n .given .1) (pre .1 .1) in
+    ((omega (arith, q, l), q, pre .0 .1), (M .ws, M .actor, pre .1 .0, M .held))
 
 enum-known-row : tie.Need-enum-known-row
 enum-known-row c = search needs
@@ -31,7 +40,13 @@ same-length : tie.Need-same-length
 same-length c = search needs
 
 returns : tie.Need-returns
-returns c = λ b h. let M = met (c .before .before .before .before .before .before .before .before .before .before .before .before .before .before .args .text .now) (replicate 24576 0) (c .before .before .before .before .before .before .before .before .before .before .before .before .before .before .pre .0 .0) (length-replicate {A = ℕ} 24576 0) (c .before .before .before .before .before .before .before .before .read .ensures .0) (c .before .before .before .before .before .before .before .before .read .ensures .1 .0) (c .before .before .before .before .before .before .before .before .read .ensures .1 .1) (c .before .before .before .before .before .before .n .given .1) h in after-as (M .whole) (c .before .before .judged .ensures (M .ws) (M .actor) b (M .held))
+returns c =
+    let args = c .before .before .before .before .before .before .before .before .before .before .before .before .before .before .args in
+    let pre = c .before .before .before .before .before .before .before .before .before .before .before .before .before .before .pre in
+    let read = c .before .before .before .before .before .before .before .before .read in
+    let n = c .before .before .before .before .before .before .n in
+    λ b h. let M = met (args .text .now) (replicate 24576 0) (pre .0 .0) (length-replicate {A = ℕ} 24576 0) (read .ensures .0) (read .ensures .1 .0)
+    (read .ensures .1 .1) (n .given .1) h in after-as (M .whole) (c .before .before .judged .ensures (M .ws) (M .actor) b (M .held))
 
 returns-2 : tie.Need-returns-2
 returns-2 c = λ b h. worded-refused (c .before .before .before .before .before .before .before .before .before .args .text .now) (replicate 24576 0) b _ (c .before .before .before .before .before .before .before .before .before .pre .0 .0) (c .before .before .before .read .ensures .0) (c .before .row .given .1)

@@ -5,8 +5,8 @@ use Prim.Native.Nat.{ℕ}
 use lib.ListN.{set}
 use Rattle.language.specs.declared.Text.{Text}
 use Rattle.tipi.specs.Told.{Read}
-use Rattle.tipi.specs.declared.Answer.{Answer}
-use Rattle.tipi.specs.declared.Answer.the-variants.{Plan, Refused}
+use Rattle.plan_answer.specs.declared.Answer.{Answer}
+use Rattle.plan_answer.specs.declared.Answer.the-variants.{Plan, Refused}
 use Rattle.tipi_abi.specs.Numbers.{rowOf, placeOf, numberOf, textOf, Numbered}
 use borrow.Author.Needs.{needs}
 use Rattle.tipi_abi.proofs.tipi_read.Statement.{statement}

@@ -98,13 +98,32 @@ slice-aggregate-feed-8 : tie.Need-slice-aggregate-feed-8 Inv-loop μ-loop
 slice-aggregate-feed-8 c = sym (c .before .before .before .before .before .before .before .before .before .before .before .before .before .before .before .before .before .loop .inv .bytes)
 
 feed-requires : tie.Need-feed-requires Inv-loop μ-loop
-feed-requires c κs = roomy _ _ _ _ _ _ (c .before .before .before .before .before .before .before .before .before .before .before .before .before .before .before .before .before .loop .inv .ports) (c .before .before .before .before .before .before .before .before .before .before .before .before .before .before .before .before .before .loop .inv .slots) (c .before .before .before .before .before .before .before .before .before .before .before .before .before .before .before .before .before .loop .inv .cells) (c .before .before .before .before .before .before .before .before .before .before .before .before .before .before .before .before .before .loop .inv .bytes) (c .before .before .before .before .before .before .before .before .before .before .before .before .before .before .before .before .before .loop .inv .none) (few _ _ _ (c .before .before .before .before .before .before .before .before .before .before .before .before .read .kept .1 .0) (c .before .before .before .before .before .before .before .before .before .before .before .before .before .before .before .before .before .loop .inv .read) (c .before .before .before .before .before .before .before .before .before .count .ensures .0 .0))
+feed-requires c κs =
+    let loop = c .before .before .before .before .before .before .before .before .before .before .before .before .before .before .before .before .before .loop in
+    let read = c .before .before .before .before .before .before .before .before .before .before .before .before .read in
+    let count = c .before .before .before .before .before .before .before .before .before .count in
+    roomy _ _ _ _ _ _ (loop .inv .ports) (loop .inv .slots) (loop .inv .cells) (loop .inv .bytes) (loop .inv .none)
+    (few _ _ _ (read .kept .1 .0) (loop .inv .read) (count .ensures .0 .0))
 
 array-share-prefix-out : tie.Need-array-share-prefix-out Inv-loop μ-loop
-array-share-prefix-out c = fed (c .before .before .before .before .before .before .before .feed .last .1 .1 .1 .1 .1 .1 .1 .1 .0) (c .before .before .before .before .before .before .before .feed .ensures) (c .before .before .before .before .before .before .before .before .before .before .before .before .before .before .before .before .before .before .before .before .before .before .before .before .before .loop .inv .none) (few _ _ _ (c .before .before .before .before .before .before .before .before .before .before .before .before .before .before .before .before .before .before .before .before .read .kept .1 .0) (c .before .before .before .before .before .before .before .before .before .before .before .before .before .before .before .before .before .before .before .before .before .before .before .before .before .loop .inv .read) (c .before .before .before .before .before .before .before .before .before .before .before .before .before .before .before .before .before .count .ensures .0 .0)) (c .before .before .before .before .before .before .before .feed .kept .1 .1 .1 .1 .1 .1 .1 .1 .0 ∙ c .before .before .before .before .before .before .before .before .before .before .before .before .before .before .before .before .before .before .before .before .before .before .before .before .before .loop .inv .bytes)
+array-share-prefix-out c =
+    let loop = c .before .before .before .before .before .before .before .before .before .before .before .before .before .before .before .before .before .before .before .before .before .before .before .before .before .loop in
+    let read = c .before .before .before .before .before .before .before .before .before .before .before .before .before .before .before .before .before .before .before .before .read in
+    let count = c .before .before .before .before .before .before .before .before .before .before .before .before .before .before .before .before .before .count in
+    let feed = c .before .before .before .before .before .before .before .feed in
+    fed (feed .last .1 .1 .1 .1 .1 .1 .1 .1 .0) (feed .ensures) (loop .inv .none)
+    (few _ _ _ (read .kept .1 .0) (loop .inv .read) (count .ensures .0 .0)) (feed .kept .1 .1 .1 .1 .1 .1 .1 .1 .0 ∙ loop .inv .bytes)
 
 slice-aggregate-write-all : tie.Need-slice-aggregate-write-all Inv-loop μ-loop
-slice-aggregate-write-all c = sym (length-take-le _ _ (fed (c .before .before .before .before .before .before .before .before .feed .last .1 .1 .1 .1 .1 .1 .1 .1 .0) (c .before .before .before .before .before .before .before .before .feed .ensures) (c .before .before .before .before .before .before .before .before .before .before .before .before .before .before .before .before .before .before .before .before .before .before .before .before .before .before .loop .inv .none) (few _ _ _ (c .before .before .before .before .before .before .before .before .before .before .before .before .before .before .before .before .before .before .before .before .before .read .kept .1 .0) (c .before .before .before .before .before .before .before .before .before .before .before .before .before .before .before .before .before .before .before .before .before .before .before .before .before .before .loop .inv .read) (c .before .before .before .before .before .before .before .before .before .before .before .before .before .before .before .before .before .before .count .ensures .0 .0)) (c .before .before .before .before .before .before .before .before .feed .kept .1 .1 .1 .1 .1 .1 .1 .1 .0 ∙ c .before .before .before .before .before .before .before .before .before .before .before .before .before .before .before .before .before .before .before .before .before .before .before .before .before .before .loop .inv .bytes)))
+slice-aggregate-write-all c =
+    let loop = c .before .before .before .before .before .before .before .before .before .before .before .before .before .before .before .before .before .before .before .before .before .before .before .before .before .before .loop in
+    let read = c .before .before .before .before .before .before .before .before .before .before .before .before .before .before .before .before .before .before .before .before .before .read in
+    let count = c .before .before .before .before .before .before .before .before .before .before .before .before .before .before .before .before .before .before .count in
+    let feed = c .before .before .before .before .before .before .before .before .feed in
+    sym
+    (length-take-le _ _
+    (fed (feed .last .1 .1 .1 .1 .1 .1 .1 .1 .0) (feed .ensures) (loop .inv .none)
+    (few _ _ _ (read .kept .1 .0) (loop .inv .read) (count .ensures .0 .0)) (feed .kept .1 .1 .1 .1 .1 .1 .1 .1 .0 ∙ loop .inv .bytes)))
 
 write-all-requires : tie.Need-write-all-requires Inv-loop μ-loop
 write-all-requires c κs = search needs
@@ -119,7 +138,24 @@ loop-less : tie.Need-loop-less Inv-loop μ-loop
 loop-less c = falls _ (c .before .before .before .before .before .before .before .before .before .before .before .before .before .before .before .before .before .before .before .before .before .before .before .before .before .before .before .loop-test .taken)
 
 loop-again : tie.Need-loop-again Inv-loop μ-loop
-loop-again c = record { none = ap (λ (t : State). t .at) (c .emptied .ensures); texts = c .before .before .before .before .before .before .before .before .before .before .feed .kept .1 .1 .0 ∙ c .before .before .before .before .before .before .before .before .before .before .before .before .before .before .before .before .before .before .before .before .before .before .before .before .before .before .before .before .loop .inv .texts; lines = c .before .before .before .before .before .before .before .before .before .before .feed .kept .1 .1 .1 .0 ∙ c .before .before .before .before .before .before .before .before .before .before .before .before .before .before .before .before .before .before .before .before .before .before .before .before .before .before .before .before .loop .inv .lines; numbers = c .before .before .before .before .before .before .before .before .before .before .feed .kept .1 .1 .1 .1 .0 ∙ c .before .before .before .before .before .before .before .before .before .before .before .before .before .before .before .before .before .before .before .before .before .before .before .before .before .before .before .before .loop .inv .numbers; ports = c .before .before .before .before .before .before .before .before .before .before .feed .kept .1 .1 .1 .1 .1 .0 ∙ c .before .before .before .before .before .before .before .before .before .before .before .before .before .before .before .before .before .before .before .before .before .before .before .before .before .before .before .before .loop .inv .ports; slots = c .before .before .before .before .before .before .before .before .before .before .feed .kept .1 .1 .1 .1 .1 .1 .0 ∙ c .before .before .before .before .before .before .before .before .before .before .before .before .before .before .before .before .before .before .before .before .before .before .before .before .before .before .before .before .loop .inv .slots; cells = c .before .before .before .before .before .before .before .before .before .before .feed .kept .1 .1 .1 .1 .1 .1 .1 .0 ∙ c .before .before .before .before .before .before .before .before .before .before .before .before .before .before .before .before .before .before .before .before .before .before .before .before .before .before .before .before .loop .inv .cells; bytes = c .before .before .before .before .before .before .before .before .before .before .feed .kept .1 .1 .1 .1 .1 .1 .1 .1 .0 ∙ c .before .before .before .before .before .before .before .before .before .before .before .before .before .before .before .before .before .before .before .before .before .before .before .before .before .before .before .before .loop .inv .bytes; read = c .before .before .before .before .before .before .before .before .before .before .before .before .before .before .before .before .before .before .before .before .before .before .before .read .kept .1 .0 ∙ c .before .before .before .before .before .before .before .before .before .before .before .before .before .before .before .before .before .before .before .before .before .before .before .before .before .before .before .before .loop .inv .read }
+loop-again c =
+    let loop = c .before .before .before .before .before .before .before .before .before .before .before .before .before .before .before .before .before .before .before .before .before .before .before .before .before .before .before .before .loop in
+    let the-read = c .before .before .before .before .before .before .before .before .before .before .before .before .before .before .before .before .before .before .before .before .before .before .before .read in
+    let feed = c .before .before .before .before .before .before .before .before .before .before .feed in
+    record {
+      none = ap (λ (t : State). t .at) (c .emptied .ensures);
+      texts = feed .kept .1 .1 .0 ∙ loop .inv .texts;
+      lines = feed .kept .1 .1 .1 .0 ∙
+          loop .inv .lines;
+      numbers = feed .kept .1 .1 .1 .1 .0 ∙ loop .inv .numbers;
+      ports = feed .kept .1 .1 .1 .1 .1 .0 ∙ loop .inv .ports;
+      slots =
+          feed .kept .1 .1 .1 .1 .1 .1 .0 ∙ loop .inv .slots;
+      cells = feed .kept .1 .1 .1 .1 .1 .1 .1 .0 ∙ loop .inv .cells;
+      bytes =
+          feed .kept .1 .1 .1 .1 .1 .1 .1 .1 .0 ∙ loop .inv .bytes;
+      read = the-read .kept .1 .0 ∙ loop .inv .read;
+    }
 
 slice-aggregate-ended : tie.Need-slice-aggregate-ended Inv-loop μ-loop
 slice-aggregate-ended c = sym (c .before .before .loop .inv .numbers)

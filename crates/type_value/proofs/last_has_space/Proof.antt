@@ -2,7 +2,7 @@
 use mathlib.Core.Path.{sym, ap, _∙_}
 use native.Mathlib.Nat.{pos-of-ne-zero}
 use denote.Ref.{now}
-use Rattle.type_value.specs.Walk.{hasSpace}
+use Rattle.exact_room.specs.Tests.{hasSpace}
 use Rattle.type_value.proofs.Tested.{none-waits, one-waits}
 use borrow.Author.Needs.{needs}
 use Rattle.type_value.proofs.last_has_space.Statement.{statement}

@@ -1,7 +1,7 @@
 -- `type_value::last_two_have_room` meets its contract. Assumes nothing.
 use mathlib.Core.Path.{sym, ap₂, _∙_}
 use denote.Ref.{now}
-use Rattle.type_value.specs.Walk.{hasRoom}
+use Rattle.exact_room.specs.Tests.{hasRoom}
 use Rattle.type_value.proofs.Tested.{few-wait, two-wait}
 use borrow.Author.Needs.{needs}
 use Rattle.type_value.proofs.last_two_have_room.Statement.{statement}

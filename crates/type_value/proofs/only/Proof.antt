@@ -1,7 +1,7 @@
 -- `type_value::only` meets its contract. Assumes nothing.
 use mathlib.Core.Path.{sym, ap, _∙_}
 use denote.Ref.{now}
-use Rattle.type_value.specs.Walk.{hasSpace}
+use Rattle.exact_room.specs.Tests.{hasSpace}
 use Rattle.type_value.proofs.Tested.{alone-not-one, alone-one, alone-wide}
 use borrow.Author.Needs.{needs}
 use Rattle.type_value.proofs.only.Statement.{statement}

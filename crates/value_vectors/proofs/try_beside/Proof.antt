@@ -1,7 +1,7 @@
 -- `value_vectors::try_beside` meets its contract: it has tested what `beside` requires. Assumes nothing.
 use native.Mathlib.Omega.{arith}
 use Rattle.value_vectors.proofs.Tested.{passed}
-use Rattle.value.proofs.Fits.{beside-within}
+use Rattle.ranges.proofs.Fits.{beside-within}
 use borrow.Author.Needs.{needs}
 use Rattle.value_vectors.proofs.try_beside.Statement.{statement}
 use Rattle.value_vectors.proofs.try_beside.Tie as tie
@@ -25,7 +25,13 @@ returns-4 : tie.Need-returns-4
 returns-4 c = search needs
 
 beside-requires : tie.Need-beside-requires
-beside-requires c κs = beside-within 64 (c .before .before .before .before .before .before .args .m) (c .before .before .before .before .before .before .args .n) (c .before .before .before .before .before .before .args .a) (c .before .before .before .before .before .before .args .b) (omega arith) (passed (c .before .before .before .before .before .before .args .m) (c .before .before .before .before .before .before .args .a) (c .before .before .before .within .result) (c .before .before .before .within .ensures) (c .before .before .if3 .left)) (passed (c .before .before .before .before .before .before .args .n) (c .before .before .before .before .before .before .args .b) (c .before .within2 .result) (c .before .within2 .ensures) (c .if4 .left))
+beside-requires c κs =
+    let args = c .before .before .before .before .before .before .args in
+    let within = c .before .before .before .within in
+    let within2 = c .before .within2 in
+    beside-within 64 (args .m) (args .n) (args .a) (args .b) (omega arith)
+    (passed (args .m) (args .a) (within .result) (within .ensures) (c .before .before .if3 .left))
+    (passed (args .n) (args .b) (within2 .result) (within2 .ensures) (c .if4 .left))
 
 returns-5 : tie.Need-returns-5
 returns-5 c = search needs

@@ -30,7 +30,19 @@ returns-5 : tie.Need-returns-5
 returns-5 c = search needs
 
 binary-requires : tie.Need-binary-requires
-binary-requires c κs = record { left = omega arith; right = omega arith; first = passed (c .before .before .before .before .before .before .before .before .args .m) (c .before .before .before .before .before .before .before .before .args .a) (c .before .before .before .before .before .within .result) (c .before .before .before .before .before .within .ensures) (c .before .before .before .before .if3 .left); second = passed (c .before .before .before .before .before .before .before .before .args .n) (c .before .before .before .before .before .before .before .before .args .b) (c .before .before .before .within2 .result) (c .before .before .before .within2 .ensures) (c .before .before .if4 .left); whole = omega arith }
+binary-requires c κs =
+    let args = c .before .before .before .before .before .before .before .before .args in
+    let within = c .before .before .before .before .before .within in
+    let if3 = c .before .before .before .before .if3 in
+    let within2 = c .before .before .before .within2 in
+    record {
+      left = omega arith;
+      right = omega arith;
+      first = passed (args .m) (args .a) (within .result) (within .ensures) (if3 .left);
+      second = passed
+          (args .n) (args .b) (within2 .result) (within2 .ensures) (c .before .before .if4 .left);
+      whole = omega arith;
+    }
 
 returns-6 : tie.Need-returns-6
 returns-6 c = search needs

@@ -36,7 +36,14 @@ loop-less : tie.Need-loop-less Inv-loop μ-loop
 loop-less c = search needs
 
 loop-again : tie.Need-loop-again Inv-loop μ-loop
-loop-again c = (omega arith, ap (λ (l : List ℕ). set l (c .before .before .before .args .at + c .before .before .loop .i) (getD (c .before .before .before .args .text .now) (c .before .before .loop .i) 0)) (c .before .before .loop .inv .1) ∙ sets-next (c .before .before .before .args .out .now) (c .before .before .before .args .text .now) (c .before .before .before .args .at) (c .before .before .loop .i) (c .before .loop-test .taken), simp length-set (c .before .before .loop .inv .2))
+loop-again c =
+    let args = c .before .before .before .args in
+    let loop = c .before .before .loop in (
+      omega arith,
+      ap (λ (l : List ℕ). set l (args .at + loop .i) (getD (args .text .now) (loop .i) 0)) (loop .inv .1) ∙ sets-next (args .out .now)
+          (args .text .now) (args .at) (loop .i) (c .before .loop-test .taken),
+      simp length-set (loop .inv .2),
+    )
 
 add-result : tie.Need-add-result Inv-loop μ-loop
 add-result c = search needs

@@ -23,7 +23,12 @@ same-length : tie.Need-same-length
 same-length c = search needs
 
 returns : tie.Need-returns
-returns c = number-written _ _ _ _ _ _ _ (c .before .before .before .before .before .decimal .ensures .1 .0) (c .before .before .before .before .before .decimal .ensures .1 .1) (twenty _ _ (c .before .before .before .before .before .before .before .before .fits .n .fits) (c .before .before .before .before .before .decimal .ensures .1 .0)) (c .before .before .copied .ensures .0) (c .before .before .copied .ensures .1)
+returns c =
+    let fits = c .before .before .before .before .before .before .before .before .fits in
+    let decimal = c .before .before .before .before .before .decimal in
+    let copied = c .before .before .copied in
+    number-written _ _ _ _ _ _ _ (decimal .ensures .1 .0) (decimal .ensures .1 .1) (twenty _ _ (fits .n .fits) (decimal .ensures .1 .0))
+    (copied .ensures .0) (copied .ensures .1)
 
 pub number-spec : {M : Type 1} → statement M
 number-spec =

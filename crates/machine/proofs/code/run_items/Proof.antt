@@ -14,8 +14,8 @@ use Rattle.plan.specs.Items.{decodeAll}
 use Rattle.plan.specs.Waits.{top}
 use Rattle.plan.specs.Items.{itemAt}
 use Rattle.soundness.proofs.Turns.{rest}
-use Rattle.machine.specs.Machine.{State, state, exec1, execAll}
-use Rattle.machine.specs.Ready.{Ready, Buffered, Left}
+use Rattle.item_steps.specs.Machine.{State, state, exec1, execAll}
+use Rattle.item_steps.specs.Ready.{Ready, Buffered, Left}
 use Rattle.machine.specs.Safety.{CodeGiven, Safe, Ran}
 use Rattle.machine.proofs.Turns.{safe-any, exec-turn, exec-done, turn-found, left-state, left-turn, ready-of, not-bad, ran-of}
 use Rattle.machine.proofs.code.run_items.Statement.{statement}

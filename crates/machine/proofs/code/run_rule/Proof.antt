@@ -10,7 +10,7 @@ use lib.ListN.{replicate}
 use Rattle.language.specs.Meaning.{Change}
 use Rattle.plan.specs.Items.{decodeAll}
 use Rattle.plan.specs.Layout.{portCount, presentAt, lengthAt, codeAt}
-use Rattle.machine.specs.Machine.{State, state, execAll, execRules}
+use Rattle.item_steps.specs.Machine.{State, state, execAll, execRules}
 use Rattle.machine.specs.Safety.{Safe, Ran}
 use Rattle.machine.specs.Fires.{Fires, ruleRun}
 use Rattle.machine.proofs.Rules.{code-found, fires-safe, rules-next, rules-done, ran-as}

@@ -8,7 +8,7 @@ use borrow.Author.Tests.{le-ltb, lt-ltb, le-leb, lt-leb, eq-eqb, ne-eqb}
 use lib.ListN.{length-set, replicate}
 use lib.Seq.{paste, paste-zero}
 use Rattle.machine.proofs.Zeros.{paste-next, zeros-next, zeros-all, prepared}
-use Rattle.machine.specs.Ready.{Buffered}
+use Rattle.item_steps.specs.Ready.{Buffered}
 use borrow.Author.Needs.{needs}
 use Rattle.machine.proofs.tables.prepare.Statement.{statement}
 use Rattle.machine.proofs.tables.prepare.Tie as tie

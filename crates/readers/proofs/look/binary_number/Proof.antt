@@ -12,7 +12,7 @@ use lib.ListN.{getD}
 use Rattle.language.specs.Words.{bytes}
 use Rattle.language.specs.Grammar.{operators, operatorIn}
 use Rattle.readers.specs.Marks.{binaryOf, binaryIn, fixedOf}
-use Rattle.words.specs.Table.{spelledWords}
+use Rattle.signs.specs.Kinds.{spelledWords}
 use Rattle.readers.proofs.Table.{at}
 use Rattle.readers.proofs.Spells.{fixed-past}
 use borrow.Author.Needs.{needs}

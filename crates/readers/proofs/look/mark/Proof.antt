@@ -11,7 +11,7 @@ use Rattle.language.specs.Words.{bytes}
 use Rattle.language.specs.Grammar.{prefixes, prefixIn}
 use Rattle.tape.specs.Tape.{one-if}
 use Rattle.readers.specs.Marks.{isMark, isSome, fixedOf}
-use Rattle.words.specs.Table.{spelledWords}
+use Rattle.signs.specs.Kinds.{spelledWords}
 use Rattle.readers.proofs.Table.{at}
 use borrow.Author.Needs.{needs}
 use Rattle.readers.proofs.look.mark.Statement.{statement}

@@ -1,7 +1,7 @@
 -- `row07_limits::items::item_fault` meets its contract: its parts, and the earliest of them. Assumes nothing.
 use native.Mathlib.Omega.{arith}
-use Rattle.row07_limits.specs.Walk.{placesIn}
-use Rattle.row07_limits.proofs.Backs.{item-told}
+use Rattle.part_lengths.specs.Parts.{placesIn}
+use Rattle.row07_limits.proofs.Walking.{item-told}
 use borrow.Author.Needs.{needs}
 use Rattle.row07_limits.proofs.items.item_fault.Statement.{statement}
 use Rattle.row07_limits.proofs.items.item_fault.Tie as tie
@@ -73,7 +73,19 @@ both-requires-2 : tie.Need-both-requires-2
 both-requires-2 c κs = search needs
 
 returns : tie.Need-returns
-returns c = item-told (placesIn (c .before .before .before .before .before .before .before .before .before .before .before .before .before .before .before .before .args .table .now) 0 (c .before .before .before .before .before .before .before .before .before .before .before .before .before .before .before .before .args .many)) (c .before .before .before .before .before .before .before .before .before .before .before .before .before .before .before .before .args .room) (c .before .before .before .before .before .before .before .before .before .before .before .before .before .before .before .before .args .tape .now) (c .before .before .before .before .before .before .before .before .before .before .before .before .before .before .before .before .args .i) (c .before .before .before .before .before .before .before .before .before .before .full .ensures) (c .before .before .before .before .before .before .before .before .before .at .ensures) (c .before .before .before .before .before .before .before .before .size .ensures) (c .before .before .before .before .before .before .size-place .ensures) (c .before .before .before .before .before .before .before .bad-size .ensures) (c .before .before .before .before .before .at2 .ensures) (c .before .before .before .before .last-limit .ensures) (c .before .before .before .other-limit .ensures) (c .before .before .held .ensures) (c .before .both .ensures) (c .both2 .ensures)
+returns c =
+    let args = c .before .before .before .before .before .before .before .before .before .before .before .before .before .before .before .before .args in
+    let full = c .before .before .before .before .before .before .before .before .before .before .full in
+    let at = c .before .before .before .before .before .before .before .before .before .at in
+    let size = c .before .before .before .before .before .before .before .before .size in
+    let bad-size = c .before .before .before .before .before .before .before .bad-size in
+    let size-place = c .before .before .before .before .before .before .size-place in
+    let at2 = c .before .before .before .before .before .at2 in
+    let last-limit = c .before .before .before .before .last-limit in
+    let other-limit = c .before .before .before .other-limit in
+    item-told (placesIn (args .table .now) 0 (args .many)) (args .room) (args .tape .now) (args .i) (full .ensures) (at .ensures) (size .ensures)
+    (size-place .ensures) (bad-size .ensures) (at2 .ensures) (last-limit .ensures) (other-limit .ensures) (c .before .before .held .ensures)
+    (c .before .both .ensures) (c .both2 .ensures)
 
 pub item-fault-spec : {M : Type 1} → statement M
 item-fault-spec =

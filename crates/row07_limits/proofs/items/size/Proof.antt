@@ -1,6 +1,6 @@
 -- `row07_limits::items::size` meets its contract: the item before is a size, or not. Assumes nothing.
 use native.Mathlib.Omega.{arith}
-use Rattle.row07_limits.proofs.Backs.{size-none, size-here, size-other}
+use Rattle.row07_limits.proofs.Walking.{size-none, size-here, size-other}
 use borrow.Author.Needs.{needs}
 use Rattle.row07_limits.proofs.items.size.Statement.{statement}
 use Rattle.row07_limits.proofs.items.size.Tie as tie

@@ -1,6 +1,6 @@
 -- `row07_limits::items::size_place` meets its contract: the item before is a size, or not. Assumes nothing.
 use native.Mathlib.Omega.{arith}
-use Rattle.row07_limits.proofs.Backs.{place-none, place-here, place-other}
+use Rattle.row07_limits.proofs.Walking.{place-none, place-here, place-other}
 use borrow.Author.Needs.{needs}
 use Rattle.row07_limits.proofs.items.size_place.Statement.{statement}
 use Rattle.row07_limits.proofs.items.size_place.Tie as tie

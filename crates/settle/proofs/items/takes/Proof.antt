@@ -2,7 +2,7 @@
 use mathlib.Core.Path.{sym, ap}
 use Prim.Native.Nat.{ℕ}
 use borrow.Author.Tests.{ne-eqb}
-use Rattle.settle.specs.Walk.{takes, when}
+use Rattle.item_writes.specs.Walk.{takes, when}
 use Rattle.settle.proofs.items.takes.Statement.{statement}
 use Rattle.settle.proofs.items.takes.Tie as tie
 

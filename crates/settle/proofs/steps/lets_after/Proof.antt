@@ -1,7 +1,7 @@
 -- `settle::steps::lets_after` meets its contract. Assumes nothing.
 use borrow.Author.Tests.{ne-eqb}
-use Rattle.settle.specs.Walk.{when}
-use Rattle.settle.specs.Tables.{letsAfter}
+use Rattle.item_writes.specs.Walk.{when}
+use Rattle.item_writes.specs.Tables.{letsAfter}
 use borrow.Author.Needs.{needs}
 use Rattle.settle.proofs.steps.lets_after.Statement.{statement}
 use Rattle.settle.proofs.steps.lets_after.Tie as tie

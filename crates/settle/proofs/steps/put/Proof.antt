@@ -3,7 +3,7 @@ use mathlib.Core.Path.{refl}
 use native.Mathlib.Omega.{arith}
 use native.Mathlib.Numerals.{add-one, add-two, add-three, add-four, add-five}
 use lib.ListN.{length-set}
-use Rattle.settle.specs.Tables.{numbersOf}
+use Rattle.item_writes.specs.Tables.{numbersOf}
 use borrow.Author.Needs.{needs}
 use Rattle.settle.proofs.steps.put.Statement.{statement}
 use Rattle.settle.proofs.steps.put.Tie as tie

@@ -1,7 +1,7 @@
 -- `settle::steps::size_after` meets its contract. Assumes nothing.
 use borrow.Author.Tests.{ne-eqb}
-use Rattle.settle.specs.Walk.{when}
-use Rattle.settle.specs.Tables.{sizeAfter}
+use Rattle.item_writes.specs.Walk.{when}
+use Rattle.item_writes.specs.Tables.{sizeAfter}
 use Rattle.settle.proofs.steps.size_after.Statement.{statement}
 use Rattle.settle.proofs.steps.size_after.Tie as tie
 

@@ -1,7 +1,7 @@
 -- `settle::steps::vals_after` meets its contract. Assumes nothing.
 use borrow.Author.Tests.{ne-eqb}
-use Rattle.settle.specs.Walk.{when}
-use Rattle.settle.specs.Tables.{valsAfter}
+use Rattle.item_writes.specs.Walk.{when}
+use Rattle.item_writes.specs.Tables.{valsAfter}
 use borrow.Author.Needs.{needs}
 use Rattle.settle.proofs.steps.vals_after.Statement.{statement}
 use Rattle.settle.proofs.steps.vals_after.Tie as tie

@@ -4,8 +4,8 @@ use native.Mathlib.Omega.{arith}
 use Prim.Native.Nat.{suc, _+_, _-_, _≤_, _<_}
 use mathlib.Core.Path.{_≡_, sym, _∙_}
 use lib.ListN.{length}
-use Rattle.value.proofs.Digits.{or-bits}
-use Rattle.value.proofs.Fits.{or-fits}
+use Rattle.bits.proofs.Digits.{or-bits}
+use Rattle.ranges.proofs.Fits.{or-fits}
 use Rattle.plan.specs.Layout.{ruleCount, codeBefore, codeFrom}
 use Rattle.plan.specs.Sound.{groupCheck, waiting}
 use Rattle.plan_sections.proofs.Parts.{ports-few, rules-few, rule-whole, rule-inside, code-next}

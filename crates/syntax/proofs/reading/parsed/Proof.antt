@@ -1,6 +1,6 @@
 -- `syntax::reading::parsed` meets its contract. Assumes nothing.
 use native.Mathlib.Omega.{arith}
-use Rattle.syntax.specs.Marking.{runsAt, placesOn}
+use Rattle.name_marks.specs.Marking.{runsAt, placesOn}
 use Rattle.syntax.proofs.Whole.{filed-ready, few-read, tree-taped, parsed-tree, parsed-fault}
 use borrow.Author.Needs.{needs}
 use Rattle.syntax.proofs.reading.parsed.Statement.{statement}

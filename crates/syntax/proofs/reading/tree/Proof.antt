@@ -2,7 +2,7 @@
 use native.Mathlib.Omega.{arith}
 use mathlib.Core.Path.{refl}
 use Rattle.readers.proofs.Laws.{moved-at, moved-bad, moved-more}
-use Rattle.syntax.proofs.Marked.{held-again, same-count}
+use Rattle.name_marks.proofs.Marked.{held-again, same-count}
 use Rattle.syntax.proofs.Whole.{head-taped, judged-tree, judged-head, moved-same}
 use borrow.Author.Needs.{needs}
 use Rattle.syntax.proofs.reading.tree.Statement.{statement}

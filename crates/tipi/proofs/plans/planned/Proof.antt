@@ -9,7 +9,9 @@ slice-aggregate-solved : tie.Need-slice-aggregate-solved
 slice-aggregate-solved c = search needs
 
 solved-requires : tie.Need-solved-requires
-solved-requires c κs = ((c .before .before .before .before .before .before .pre .0 .0, c .before .before .before .before .before .before .pre .0 .2, search needs), (c .before .before .before .before .before .before .pre .1 .0, c .before .before .before .before .before .before .pre .1 .1, c .before .before .before .before .before .before .pre .1 .2, c .before .before .before .before .before .before .pre .1 .3 .asked))
+solved-requires c κs =
+    let pre = c .before .before .before .before .before .before .pre in
+    ((pre .0 .0, pre .0 .2, search needs), (pre .1 .0, pre .1 .1, pre .1 .2, pre .1 .3 .asked))
 
 enum-known-w : tie.Need-enum-known-w
 enum-known-w c = search needs
@@ -21,7 +23,11 @@ slice-aggregate-sized : tie.Need-slice-aggregate-sized
 slice-aggregate-sized c = let h = c .before .before .before .before .before .before .before .before .before .before .before .before .pre .1 .3 in part-long _ _ (few-widths (c .before .before .before .before .before .solved .ensures _ _ _ (h .asked)) (c .before .before .w .given .1))
 
 sized-requires : tie.Need-sized-requires
-sized-requires c κs = let h = c .before .before .before .before .before .before .before .before .before .before .before .before .before .pre .1 .3 in (c .before .before .before .before .before .before .before .before .before .before .before .before .before .pre .0, (c .before .before .before .before .before .before .before .before .before .before .before .before .before .pre .1 .0, c .before .before .before .before .before .before .before .before .before .before .before .before .before .pre .1 .1, c .before .before .before .before .before .before .before .before .before .before .before .before .before .pre .1 .2, h, least-widths (c .before .before .before .before .before .before .solved .ensures _ _ _ (h .asked)) (c .before .before .before .w .given .1)))
+sized-requires c κs =
+    let pre = c .before .before .before .before .before .before .before .before .before .before .before .before .before .pre in
+    let solved = c .before .before .before .before .before .before .solved in
+    let w = c .before .before .before .w in
+    let h = pre .1 .3 in (pre .0, (pre .1 .0, pre .1 .1, pre .1 .2, h, least-widths (solved .ensures _ _ _ (h .asked)) (w .given .1)))
 
 enum-told : tie.Need-enum-told
 enum-told c = search needs

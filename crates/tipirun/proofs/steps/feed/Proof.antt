@@ -22,7 +22,10 @@ record Long (a a₀ b b₀ p p₀ v v₀ o o₀ m m₀ out out₀ : List ℕ) : 
   bytes : length out ≡ length out₀
 
 abbrev Inv-loop : tie.InvT-loop
-Inv-loop bytes actor₀ bindings₀ plan₀ values₀ outputs₀ memory₀ out₀ t₀ i₀ actor bindings plan values outputs memory out t i = (i ≤ length bytes) × Roomy values₀ outputs₀ memory₀ out₀ (t₀ .at + 378 * length bytes) × Long actor actor₀ bindings bindings₀ plan plan₀ values values₀ outputs outputs₀ memory memory₀ out out₀ × Running (machine t₀ actor₀ bindings₀ plan₀ values₀ outputs₀ memory₀ []) bytes out₀ (t₀ .at) i t actor bindings plan values outputs memory out
+Inv-loop bytes actor₀ bindings₀ plan₀ values₀ outputs₀ memory₀ out₀ t₀ i₀ actor bindings plan values outputs memory out t i =
+    (i ≤ length bytes) × Roomy values₀ outputs₀ memory₀ out₀ (t₀ .at + 378 * length bytes) × Long actor actor₀ bindings bindings₀ plan plan₀ values
+    values₀ outputs outputs₀ memory memory₀ out out₀ × Running (machine t₀ actor₀ bindings₀ plan₀ values₀ outputs₀ memory₀ []) bytes out₀ (t₀ .at) i t
+    actor bindings plan values outputs memory out
 
 abbrev μ-loop : tie.MeasureT-loop
 μ-loop bytes actor₀ bindings₀ plan₀ values₀ outputs₀ memory₀ out₀ t₀ i₀ actor bindings plan values outputs memory out t i = length bytes - i
@@ -34,16 +37,48 @@ shared-slice-read-step : tie.Need-shared-slice-read-step Inv-loop μ-loop
 shared-slice-read-step c = search needs
 
 step-requires : tie.Need-step-requires Inv-loop μ-loop
-step-requires c κs = record { ports = omega (arith, c .before .before .before .before .before .before .before .before .before .loop .inv .1 .ports, c .before .before .before .before .before .before .before .before .before .loop .inv .2 .values); slots = omega (arith, c .before .before .before .before .before .before .before .before .before .loop .inv .1 .slots, c .before .before .before .before .before .before .before .before .before .loop .inv .2 .outputs); cells = omega (arith, c .before .before .before .before .before .before .before .before .before .loop .inv .1 .cells, c .before .before .before .before .before .before .before .before .before .loop .inv .2 .memory); room = omega (arith, c .before .before .before .before .before .before .before .before .before .loop .inv .1 .room, c .before .before .before .before .before .before .before .before .before .loop .inv .2 .bytes, c .before .before .before .before .before .before .before .before .before .loop .inv .3 .place, c .before .before .before .before .before .before .before .before .before .loop .inv .3 .short, c .before .before .before .before .before .before .before .before .loop-test .taken) }
+step-requires c κs =
+    let loop = c .before .before .before .before .before .before .before .before .before .loop in
+    let loop-test = c .before .before .before .before .before .before .before .before .loop-test in
+    record {
+      ports = omega (arith, loop .inv .1 .ports, loop .inv .2 .values);
+      slots = omega (arith, loop .inv .1 .slots, loop .inv .2 .outputs);
+      cells =
+          omega (arith, loop .inv .1 .cells, loop .inv .2 .memory);
+      room = omega
+          (arith, loop .inv .1 .room, loop .inv .2 .bytes, loop .inv .3 .place, loop .inv .3 .short, loop-test .taken);
+    }
 
 add-i : tie.Need-add-i Inv-loop μ-loop
-add-i c = record { fits = omega (arith, c .before .before .before .before .before .before .before .before .before .before .before .before .before .before .before .before .before .before .before .before .before .before .before .loop-test .taken, c .before .before .before .before .before .before .before .before .before .before .before .before .before .before .before .before .before .before .before .before .before .before .before .before .before .before .before .before .before .before .before .before .before .good .1 .0 .0) }
+add-i c =
+    let good = c .before .before .before .before .before .before .before .before .before .before .before .before .before .before .before .before .before .before .before .before .before .before .before .before .before .before .before .before .before .before .before .before .before .good in
+    let loop-test = c .before .before .before .before .before .before .before .before .before .before .before .before .before .before .before .before .before .before .before .before .before .before .before .loop-test in
+    record { fits = omega (arith, loop-test .taken, good .1 .0 .0) }
 
 loop-less : tie.Need-loop-less Inv-loop μ-loop
 loop-less c = search needs
 
 loop-again : tie.Need-loop-again Inv-loop μ-loop
-loop-again c = (omega (arith, c .before .before .before .before .before .before .before .before .before .before .before .before .before .before .before .before .before .before .before .before .before .before .before .loop-test .taken), c .before .before .before .before .before .before .before .before .before .before .before .before .before .before .before .before .before .before .before .before .before .before .before .before .loop .inv .1, record { actor = c .before .before .before .before .before .before .before .before .before .before .before .before .before .before .step .kept .1 .1 .0 ∙ c .before .before .before .before .before .before .before .before .before .before .before .before .before .before .before .before .before .before .before .before .before .before .before .before .loop .inv .2 .actor; bindings = c .before .before .before .before .before .before .before .before .before .before .before .before .before .before .step .kept .1 .1 .1 .0 ∙ c .before .before .before .before .before .before .before .before .before .before .before .before .before .before .before .before .before .before .before .before .before .before .before .before .loop .inv .2 .bindings; plan = c .before .before .before .before .before .before .before .before .before .before .before .before .before .before .step .kept .1 .1 .1 .1 .0 ∙ c .before .before .before .before .before .before .before .before .before .before .before .before .before .before .before .before .before .before .before .before .before .before .before .before .loop .inv .2 .plan; values = c .before .before .before .before .before .before .before .before .before .before .before .before .before .before .step .kept .1 .1 .1 .1 .1 .0 ∙ c .before .before .before .before .before .before .before .before .before .before .before .before .before .before .before .before .before .before .before .before .before .before .before .before .loop .inv .2 .values; outputs = c .before .before .before .before .before .before .before .before .before .before .before .before .before .before .step .kept .1 .1 .1 .1 .1 .1 .0 ∙ c .before .before .before .before .before .before .before .before .before .before .before .before .before .before .before .before .before .before .before .before .before .before .before .before .loop .inv .2 .outputs; memory = c .before .before .before .before .before .before .before .before .before .before .before .before .before .before .step .kept .1 .1 .1 .1 .1 .1 .1 .0 ∙ c .before .before .before .before .before .before .before .before .before .before .before .before .before .before .before .before .before .before .before .before .before .before .before .before .loop .inv .2 .memory; bytes = c .before .before .before .before .before .before .before .before .before .before .before .before .before .before .step .kept .1 .1 .1 .1 .1 .1 .1 .1 .0 ∙ c .before .before .before .before .before .before .before .before .before .before .before .before .before .before .before .before .before .before .before .before .before .before .before .before .loop .inv .2 .bytes }, more _ _ _ _ _ _ _ _ _ _ _ _ _ _ _ _ _ _ _ _ _ (c .before .before .before .before .before .before .before .before .before .before .before .before .before .before .before .before .before .before .before .before .before .before .before .loop-test .taken) (c .before .before .before .before .before .before .before .before .before .before .before .before .before .before .before .before .before .before .before .before .before .before .before .before .loop .inv .3) (c .before .before .before .before .before .before .before .before .before .before .before .before .before .before .step .ensures))
+loop-again c =
+    let loop = c .before .before .before .before .before .before .before .before .before .before .before .before .before .before .before .before .before .before .before .before .before .before .before .before .loop in
+    let loop-test = c .before .before .before .before .before .before .before .before .before .before .before .before .before .before .before .before .before .before .before .before .before .before .before .loop-test in
+    let step = c .before .before .before .before .before .before .before .before .before .before .before .before .before .before .step in (
+      omega (arith, loop-test .taken),
+      loop .inv .1,
+      record {
+        actor = step .kept .1 .1 .0 ∙ loop .inv .2 .actor;
+        bindings = step .kept .1 .1 .1 .0 ∙ loop .inv .2 .bindings;
+        plan = step .kept .1 .1 .1 .1 .0
+            ∙ loop .inv .2 .plan;
+        values = step .kept .1 .1 .1 .1 .1 .0 ∙ loop .inv .2 .values;
+        outputs = step .kept .1 .1 .1 .1 .1 .1 .0 ∙
+            loop .inv .2 .outputs;
+        memory = step .kept .1 .1 .1 .1 .1 .1 .1 .0 ∙ loop .inv .2 .memory;
+        bytes = step .kept .1 .1 .1 .1 .1 .1 .1 .1 .0 ∙
+            loop .inv .2 .bytes;
+      },
+      more _ _ _ _ _ _ _ _ _ _ _ _ _ _ _ _ _ _ _ _ _ (loop-test .taken) (loop .inv .3) (step .ensures),
+    )
 
 same-length : tie.Need-same-length Inv-loop μ-loop
 same-length c = c .before .loop .inv .2 .actor

@@ -79,7 +79,13 @@ same-length : tie.Need-same-length
 same-length c = search needs
 
 returns : tie.Need-returns
-returns c = renamed (c .before .before .show-cells .ensures) (ended-through _ _ _ (c .before .before .before .before .before .before .before .before .enum-told .given .1) (c .before .before .before .before .before .before .before .least .ensures) (c .before .before .before .before .before .cells .ensures .0)) (let e = length-take (c .before .before .before .before .before .cells .result) (c .before .before .before .before .before .before .before .before .before .before .before .before .before .args .memory .now) in omega (arith, c .before .before .before .before .before .cells .ensures .1))
+returns c =
+    let args = c .before .before .before .before .before .before .before .before .before .before .before .before .before .args in
+    let the-enum-told = c .before .before .before .before .before .before .before .before .enum-told in
+    let least = c .before .before .before .before .before .before .before .least in
+    let cells = c .before .before .before .before .before .cells in
+    renamed (c .before .before .show-cells .ensures) (ended-through _ _ _ (the-enum-told .given .1) (least .ensures) (cells .ensures .0))
+    (let e = length-take (cells .result) (args .memory .now) in omega (arith, cells .ensures .1))
 
 same-length-2 : tie.Need-same-length-2
 same-length-2 c = search needs

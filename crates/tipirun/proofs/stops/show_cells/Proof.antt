@@ -25,13 +25,25 @@ numbers-from-requires : tie.Need-numbers-from-requires
 numbers-from-requires c κs = room-left _ (c .before .before .before .number .ensures) (let d = length-drop 1 (c .before .before .before .before .before .before .before .before .before .args .all .now) in omega (arith, c .before .before .before .before .before .before .before .before .before .pre, c .before .before .before .before .before .before .if1 .left))
 
 put-requires-2 : tie.Need-put-requires-2
-put-requires-2 c κs = room-left _ (both (c .before .before .before .before .before .before .before .number .ensures) (c .before .before .before .numbers-from .ensures)) (let d = length-drop 1 (c .before .before .before .before .before .before .before .before .before .before .before .before .before .args .all .now) in omega (arith, c .before .before .before .before .before .before .before .before .before .before .before .before .before .pre, c .before .before .before .before .before .before .before .before .before .before .if1 .left))
+put-requires-2 c κs =
+    let args = c .before .before .before .before .before .before .before .before .before .before .before .before .before .args in
+    let pre = c .before .before .before .before .before .before .before .before .before .before .before .before .before .pre in
+    let if1 = c .before .before .before .before .before .before .before .before .before .before .if1 in
+    let number = c .before .before .before .before .before .before .before .number in
+    let numbers-from = c .before .before .before .numbers-from in
+    room-left _ (both (number .ensures) (numbers-from .ensures)) (let d = length-drop 1 (args .all .now) in omega (arith, pre, if1 .left))
 
 same-length-2 : tie.Need-same-length-2
 same-length-2 c = search needs
 
 returns-2 : tie.Need-returns-2
-returns-2 c = renamed (both (c .before .before .before .before .before .before .before .before .before .before .number .ensures) (both (c .before .before .before .before .before .before .numbers-from .ensures) (c .before .before .put2 .ensures))) (line-some _ (omega (arith, c .before .before .before .before .before .before .before .before .before .before .before .before .before .if1 .left))) (let d = length-drop 1 (c .before .before .before .before .before .before .before .before .before .before .before .before .before .before .before .before .args .all .now) in omega (arith, c .before .before .before .before .before .before .before .before .before .before .before .before .before .if1 .left))
+returns-2 c =
+    let args = c .before .before .before .before .before .before .before .before .before .before .before .before .before .before .before .before .args in
+    let if1 = c .before .before .before .before .before .before .before .before .before .before .before .before .before .if1 in
+    let number = c .before .before .before .before .before .before .before .before .before .before .number in
+    let numbers-from = c .before .before .before .before .before .before .numbers-from in
+    renamed (both (number .ensures) (both (numbers-from .ensures) (c .before .before .put2 .ensures))) (line-some _ (omega (arith, if1 .left)))
+    (let d = length-drop 1 (args .all .now) in omega (arith, if1 .left))
 
 pub show-cells-spec : {M : Type 1} → statement M
 show-cells-spec =

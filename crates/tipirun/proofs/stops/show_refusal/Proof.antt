@@ -24,7 +24,13 @@ same-length : tie.Need-same-length
 same-length c = search needs
 
 returns : tie.Need-returns
-returns c = named {m = 42} (line-two _ _ _ _ (c .before .before .before .before .before .before .before .before .before .before .before .before .wide .ensures) (c .before .before .before .before .before .before .before .wide2 .ensures)) (omega arith) (both (c .before .before .before .before .before .before .before .before .before .before .before .number .ensures) (both (c .before .before .before .before .before .before .next-number .ensures) (c .before .before .put .ensures)))
+returns c =
+    let wide = c .before .before .before .before .before .before .before .before .before .before .before .before .wide in
+    let number = c .before .before .before .before .before .before .before .before .before .before .before .number in
+    let wide2 = c .before .before .before .before .before .before .before .wide2 in
+    let next-number = c .before .before .before .before .before .before .next-number in
+    named {m = 42} (line-two _ _ _ _ (wide .ensures) (wide2 .ensures)) (omega arith)
+    (both (number .ensures) (both (next-number .ensures) (c .before .before .put .ensures)))
 
 pub show-refusal-spec : {M : Type 1} → statement M
 show-refusal-spec =

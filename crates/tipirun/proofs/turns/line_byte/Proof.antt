@@ -49,7 +49,16 @@ same-length-4 : tie.Need-same-length-4
 same-length-4 c = search needs
 
 returns-3 : tie.Need-returns-3
-returns-3 c = left-as (c .before .before .before .before .before .before .before .before .number-ends .ensures) (ap (λ (l : List ℕ). numberEnds (c .before .before .before .before .before .before .before .before .before .before .before .before .before .before .before .before .before .before .before .before .before .before .before .before .args .s) (c .before .before .before .before .before .before .before .before .before .before .before .before .before .before .before .before .before .before .before .before .before .before .before .before .args .b) l (c .before .before .before .before .before .before .before .before .before .before .before .before .before .before .before .before .before .before .before .before .before .before .before .before .args .values .now) (c .before .before .before .before .before .before .before .before .before .before .before .before .before .before .before .before .before .before .before .before .before .before .before .before .args .outputs .now) (c .before .before .before .before .before .before .before .before .before .before .before .before .before .before .before .before .before .before .before .before .before .before .before .before .args .memory .now)) (take-least _ _ _ (c .before .before .before .before .before .before .before .before .before .before .before .before .before .before .least .ensures)) ∙ line-ends _ _ _ _ _ _ (sym (c .before .before .before .before .before .before .before .before .before .before .before .before .before .before .before .before .before .before .takes-in-line .ensures) ∙ c .before .before .before .before .before .before .before .before .before .before .before .before .before .before .before .before .before .if1 .left) (not-false _ (c .before .before .before .before .before .before .before .before .before .before .before .before .before .before .before .if2 .left)))
+returns-3 c =
+    let args = c .before .before .before .before .before .before .before .before .before .before .before .before .before .before .before .before .before .before .before .before .before .before .before .before .args in
+    let takes-in-line = c .before .before .before .before .before .before .before .before .before .before .before .before .before .before .before .before .before .before .takes-in-line in
+    let if1 = c .before .before .before .before .before .before .before .before .before .before .before .before .before .before .before .before .before .if1 in
+    let if2 = c .before .before .before .before .before .before .before .before .before .before .before .before .before .before .before .if2 in
+    let least = c .before .before .before .before .before .before .before .before .before .before .before .before .before .before .least in
+    let number-ends = c .before .before .before .before .before .before .before .before .number-ends in
+    left-as (number-ends .ensures)
+    (ap (λ (l : List ℕ). numberEnds (args .s) (args .b) l (args .values .now) (args .outputs .now) (args .memory .now))
+    (take-least _ _ _ (least .ensures)) ∙ line-ends _ _ _ _ _ _ (sym (takes-in-line .ensures) ∙ if1 .left) (not-false _ (if2 .left)))
 
 pub line-byte-spec : {M : Type 1} → statement M
 line-byte-spec =

@@ -5,7 +5,8 @@ use mathlib.Core.List.{List, [], _∷_, _++_}
 use Prim.Native.Nat.{ℕ, _+_, _-_, _*_, _≤_, _<_}
 use native.Mathlib.Omega.{arith}
 use lib.ListN.{length, getD, take, drop, set}
-use Rattle.tipirun.specs.Lines.{portsOf, nextInput, inputFrom}
+use Rattle.tipirun.specs.Lines.{nextInput, inputFrom}
+use Rattle.cycle_line.specs.Shown.{portsOf}
 use Rattle.tipirun.proofs.Counting.{input-first, input-here, input-past, input-none}
 use Rattle.tipirun.proofs.turns.next_input.Statement.{statement}
 use Rattle.tipirun.proofs.turns.next_input.Tie as tie

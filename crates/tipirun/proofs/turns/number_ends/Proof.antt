@@ -29,7 +29,14 @@ same-length : tie.Need-same-length
 same-length c = search needs
 
 returns-2 : tie.Need-returns-2
-returns-2 c = left-blank _ _ _ _ _ _ _ _ (c .before .before .before .before .before .before .before .before .next-input .ensures) (c .before .before .before .before .before .before .before .ports .ensures .0) _ _ _ _ (c .before .before .before .before .before .before .if1 .taken) (c .before .before .before .before .before .if2 .left) (c .at-port .ensures) (c .before .before .before .keep-value .ensures .0) (c .before .before .before .keep-value .ensures .1)
+returns-2 c =
+    let next-input = c .before .before .before .before .before .before .before .before .next-input in
+    let ports = c .before .before .before .before .before .before .before .ports in
+    let if1 = c .before .before .before .before .before .before .if1 in
+    let if2 = c .before .before .before .before .before .if2 in
+    let keep-value = c .before .before .before .keep-value in
+    left-blank _ _ _ _ _ _ _ _ (next-input .ensures) (ports .ensures .0) _ _ _ _ (if1 .taken) (if2 .left) (c .at-port .ensures) (keep-value .ensures .0)
+    (keep-value .ensures .1)
 
 wrong-requires-2 : tie.Need-wrong-requires-2
 wrong-requires-2 c κs = search needs
@@ -56,7 +63,15 @@ same-length-5 : tie.Need-same-length-5
 same-length-5 c = search needs
 
 returns-4 : tie.Need-returns-4
-returns-4 c = left-turn _ _ _ _ _ _ _ _ (c .before .before .before .before .before .before .before .before .before .before .before .before .before .before .before .before .before .before .next-input .ensures) (c .before .before .before .before .before .before .before .before .before .before .before .before .before .before .before .before .before .ports .ensures .0) _ _ _ _ _ _ _ (c .before .before .before .before .before .before .before .before .before .before .before .before .before .before .before .before .if1 .left) (c .before .before .before .before .before .before .before .before .before .before .before .before .before .before .before .if3 .left) (c .before .before .before .before .before .before .before .before .before .before .before .before .before .keep-value2 .ensures .0) (c .before .before .before .before .before .before .before .before .before .before .before .before .before .keep-value2 .ensures .1) (c .before .before .before .before .before .before .turned .ensures)
+returns-4 c =
+    let next-input = c .before .before .before .before .before .before .before .before .before .before .before .before .before .before .before .before .before .before .next-input in
+    let ports = c .before .before .before .before .before .before .before .before .before .before .before .before .before .before .before .before .before .ports in
+    let if1 = c .before .before .before .before .before .before .before .before .before .before .before .before .before .before .before .before .if1 in
+    let if3 = c .before .before .before .before .before .before .before .before .before .before .before .before .before .before .before .if3 in
+    let keep-value2 = c .before .before .before .before .before .before .before .before .before .before .before .before .before .keep-value2 in
+    let turned = c .before .before .before .before .before .before .turned in
+    left-turn _ _ _ _ _ _ _ _ (next-input .ensures) (ports .ensures .0) _ _ _ _ _ _ _ (if1 .left) (if3 .left) (keep-value2 .ensures .0)
+    (keep-value2 .ensures .1) (turned .ensures)
 
 pub number-ends-spec : {M : Type 1} → statement M
 number-ends-spec =

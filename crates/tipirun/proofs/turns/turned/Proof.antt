@@ -51,7 +51,14 @@ same-length-3 : tie.Need-same-length-3
 same-length-3 c = search needs
 
 returns : tie.Need-returns
-returns c = turned-as _ _ _ _ _ _ _ _ _ _ _ _ _ _ _ _ (c .before .before .before .before .before .before .before .before .before .before .before .before .before .before .before .place .ensures .0 ∙ c .before .before .before .before .before .before .before .before .before .before .before .before .before .before .before .before .ports .ensures .0) (c .before .before .before .before .before .before .before .before .before .before .before .before .before .before .cells .ensures .0) (c .before .before .before .before .before .before .before .before .before .before .cycle .ensures) (c .before .before .before .show .ensures) (c .less .ensures)
+returns c =
+    let ports = c .before .before .before .before .before .before .before .before .before .before .before .before .before .before .before .before .ports in
+    let place = c .before .before .before .before .before .before .before .before .before .before .before .before .before .before .before .place in
+    let cells = c .before .before .before .before .before .before .before .before .before .before .before .before .before .before .cells in
+    let cycle = c .before .before .before .before .before .before .before .before .before .before .cycle in
+    let show = c .before .before .before .show in
+    turned-as _ _ _ _ _ _ _ _ _ _ _ _ _ _ _ _ (place .ensures .0 ∙ ports .ensures .0) (cells .ensures .0) (cycle .ensures) (show .ensures)
+    (c .less .ensures)
 
 pub turned-spec : {M : Type 1} → statement M
 turned-spec =

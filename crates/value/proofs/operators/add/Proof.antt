@@ -2,7 +2,7 @@
 use mathlib.Core.Path.{ap, _∙_}
 use Prim.Native.Nat.{ℕ, _+_, _%_, _^_}
 use Rattle.language.specs.Values.{addOf}
-use Rattle.value.proofs.Laws.{again}
+use Rattle.bits.proofs.Laws.{again}
 use borrow.Author.Needs.{needs}
 use Rattle.value.proofs.operators.add.Statement.{statement}
 use Rattle.value.proofs.operators.add.Tie as tie

@@ -6,9 +6,9 @@ use lib.Bits.{bitAnd, bitOr, bitXor, and-lt, or-lt, xor-lt}
 use Rattle.language.specs.Values.{truth, complement, addOf, subtractOf, binaryWidth, binaryValue}
 use Rattle.language.specs.declared.Binary.{Binary}
 use Rattle.language.specs.declared.Binary.the-variants.{Multiply}
-use Rattle.value.specs.Fits.{BinaryFits}
-use Rattle.value.proofs.Laws.{wider-lt, product}
-use Rattle.value.proofs.Digits.{and-bits, or-bits, xor-bits}
+use Rattle.bits.specs.Fits.{BinaryFits}
+use Rattle.bits.proofs.Laws.{wider-lt, product}
+use Rattle.bits.proofs.Digits.{and-bits, or-bits, xor-bits}
 use borrow.Author.Needs.{needs}
 use Rattle.value.proofs.operators.binary.Statement.{statement}
 use Rattle.value.proofs.operators.binary.Tie as tie
@@ -174,11 +174,19 @@ returns-3 c = told (c .before .before .before .before .args .m) (c .before .befo
 
 returns-4 : tie.Need-returns-4
 unfolding binaryValue
-returns-4 c = told (c .before .before .before .before .args .m) (c .before .before .before .before .args .n) (c .before .before .before .before .args .a) (c .before .before .before .before .args .b) (c .before .enum-told4 .given .1) (c .add .ensures ∙ ap (λ (x : ℕ). addOf x (c .before .before .before .before .args .a) (c .before .before .before .before .args .b)) (c .before .before .before .wider .ensures))
+returns-4 c =
+    let args = c .before .before .before .before .args in
+    let wider = c .before .before .before .wider in
+    told (args .m) (args .n) (args .a) (args .b) (c .before .enum-told4 .given .1)
+    (c .add .ensures ∙ ap (λ (x : ℕ). addOf x (args .a) (args .b)) (wider .ensures))
 
 returns-5 : tie.Need-returns-5
 unfolding binaryValue
-returns-5 c = told (c .before .before .before .before .args .m) (c .before .before .before .before .args .n) (c .before .before .before .before .args .a) (c .before .before .before .before .args .b) (c .before .enum-told5 .given .1) (c .subtract .ensures ∙ ap (λ (x : ℕ). subtractOf x (c .before .before .before .before .args .a) (c .before .before .before .before .args .b)) (c .before .before .before .wider .ensures))
+returns-5 c =
+    let args = c .before .before .before .before .args in
+    let wider = c .before .before .before .wider in
+    told (args .m) (args .n) (args .a) (args .b) (c .before .enum-told5 .given .1)
+    (c .subtract .ensures ∙ ap (λ (x : ℕ). subtractOf x (args .a) (args .b)) (wider .ensures))
 
 returns-6 : tie.Need-returns-6
 unfolding binaryValue
@@ -214,27 +222,62 @@ returns-13 c = told (c .before .before .before .before .args .m) (c .before .bef
 
 returns-14 : tie.Need-returns-14
 unfolding binaryValue
-returns-14 c = told (c .before .before .before .args .m) (c .before .before .before .args .n) (c .before .before .before .args .a) (c .before .before .before .args .b) (c .enum-told14 .given .1) (and-bits (max (c .before .before .before .args .m) (c .before .before .before .args .n)) (c .before .before .before .args .a) (c .before .before .before .args .b) (first (c .before .before .before .pre) (max (c .before .before .before .args .m) (c .before .before .before .args .n)) refl) (second (c .before .before .before .pre) (max (c .before .before .before .args .m) (c .before .before .before .args .n)) refl))
+returns-14 c =
+    let args = c .before .before .before .args in
+    let pre = c .before .before .before .pre in
+    told (args .m) (args .n) (args .a) (args .b) (c .enum-told14 .given .1)
+    (and-bits (max (args .m) (args .n)) (args .a) (args .b) (first (pre) (max (args .m) (args .n)) refl)
+    (second (pre) (max (args .m) (args .n)) refl))
 
 returns-15 : tie.Need-returns-15
 unfolding binaryValue
-returns-15 c = told (c .before .before .before .before .args .m) (c .before .before .before .before .args .n) (c .before .before .before .before .args .a) (c .before .before .before .before .args .b) (c .before .enum-told15 .given .1) (c .complement .ensures ∙ ap₂ complement (c .before .before .before .wider .ensures) (and-bits (max (c .before .before .before .before .args .m) (c .before .before .before .before .args .n)) (c .before .before .before .before .args .a) (c .before .before .before .before .args .b) (first (c .before .before .before .before .pre) (max (c .before .before .before .before .args .m) (c .before .before .before .before .args .n)) refl) (second (c .before .before .before .before .pre) (max (c .before .before .before .before .args .m) (c .before .before .before .before .args .n)) refl)))
+returns-15 c =
+    let args = c .before .before .before .before .args in
+    let pre = c .before .before .before .before .pre in
+    let wider = c .before .before .before .wider in
+    told (args .m) (args .n) (args .a) (args .b) (c .before .enum-told15 .given .1)
+    (c .complement .ensures ∙ ap₂ complement (wider .ensures)
+    (and-bits (max (args .m) (args .n)) (args .a) (args .b) (first (pre) (max (args .m) (args .n)) refl)
+    (second (pre) (max (args .m) (args .n)) refl)))
 
 returns-16 : tie.Need-returns-16
 unfolding binaryValue
-returns-16 c = told (c .before .before .before .args .m) (c .before .before .before .args .n) (c .before .before .before .args .a) (c .before .before .before .args .b) (c .enum-told16 .given .1) (xor-bits (max (c .before .before .before .args .m) (c .before .before .before .args .n)) (c .before .before .before .args .a) (c .before .before .before .args .b) (first (c .before .before .before .pre) (max (c .before .before .before .args .m) (c .before .before .before .args .n)) refl) (second (c .before .before .before .pre) (max (c .before .before .before .args .m) (c .before .before .before .args .n)) refl))
+returns-16 c =
+    let args = c .before .before .before .args in
+    let pre = c .before .before .before .pre in
+    told (args .m) (args .n) (args .a) (args .b) (c .enum-told16 .given .1)
+    (xor-bits (max (args .m) (args .n)) (args .a) (args .b) (first (pre) (max (args .m) (args .n)) refl)
+    (second (pre) (max (args .m) (args .n)) refl))
 
 returns-17 : tie.Need-returns-17
 unfolding binaryValue
-returns-17 c = told (c .before .before .before .before .args .m) (c .before .before .before .before .args .n) (c .before .before .before .before .args .a) (c .before .before .before .before .args .b) (c .before .enum-told17 .given .1) (c .complement2 .ensures ∙ ap₂ complement (c .before .before .before .wider .ensures) (xor-bits (max (c .before .before .before .before .args .m) (c .before .before .before .before .args .n)) (c .before .before .before .before .args .a) (c .before .before .before .before .args .b) (first (c .before .before .before .before .pre) (max (c .before .before .before .before .args .m) (c .before .before .before .before .args .n)) refl) (second (c .before .before .before .before .pre) (max (c .before .before .before .before .args .m) (c .before .before .before .before .args .n)) refl)))
+returns-17 c =
+    let args = c .before .before .before .before .args in
+    let pre = c .before .before .before .before .pre in
+    let wider = c .before .before .before .wider in
+    told (args .m) (args .n) (args .a) (args .b) (c .before .enum-told17 .given .1)
+    (c .complement2 .ensures ∙ ap₂ complement (wider .ensures)
+    (xor-bits (max (args .m) (args .n)) (args .a) (args .b) (first (pre) (max (args .m) (args .n)) refl)
+    (second (pre) (max (args .m) (args .n)) refl)))
 
 returns-18 : tie.Need-returns-18
 unfolding binaryValue
-returns-18 c = told (c .before .before .before .args .m) (c .before .before .before .args .n) (c .before .before .before .args .a) (c .before .before .before .args .b) (c .enum-told18 .given .1) (or-bits (max (c .before .before .before .args .m) (c .before .before .before .args .n)) (c .before .before .before .args .a) (c .before .before .before .args .b) (first (c .before .before .before .pre) (max (c .before .before .before .args .m) (c .before .before .before .args .n)) refl) (second (c .before .before .before .pre) (max (c .before .before .before .args .m) (c .before .before .before .args .n)) refl))
+returns-18 c =
+    let args = c .before .before .before .args in
+    let pre = c .before .before .before .pre in
+    told (args .m) (args .n) (args .a) (args .b) (c .enum-told18 .given .1)
+    (or-bits (max (args .m) (args .n)) (args .a) (args .b) (first (pre) (max (args .m) (args .n)) refl) (second (pre) (max (args .m) (args .n)) refl))
 
 returns-19 : tie.Need-returns-19
 unfolding binaryValue
-returns-19 c = told (c .before .before .before .before .args .m) (c .before .before .before .before .args .n) (c .before .before .before .before .args .a) (c .before .before .before .before .args .b) (c .before .enum-told19 .given .1) (c .complement3 .ensures ∙ ap₂ complement (c .before .before .before .wider .ensures) (or-bits (max (c .before .before .before .before .args .m) (c .before .before .before .before .args .n)) (c .before .before .before .before .args .a) (c .before .before .before .before .args .b) (first (c .before .before .before .before .pre) (max (c .before .before .before .before .args .m) (c .before .before .before .before .args .n)) refl) (second (c .before .before .before .before .pre) (max (c .before .before .before .before .args .m) (c .before .before .before .before .args .n)) refl)))
+returns-19 c =
+    let args = c .before .before .before .before .args in
+    let pre = c .before .before .before .before .pre in
+    let wider = c .before .before .before .wider in
+    told (args .m) (args .n) (args .a) (args .b) (c .before .enum-told19 .given .1)
+    (c .complement3 .ensures ∙ ap₂ complement (wider .ensures)
+    (or-bits (max (args .m) (args .n)) (args .a) (args .b) (first (pre) (max (args .m) (args .n)) refl)
+    (second (pre) (max (args .m) (args .n)) refl)))
 
 returns-20 : tie.Need-returns-20
 unfolding binaryValue truth

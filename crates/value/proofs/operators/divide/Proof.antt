@@ -1,6 +1,6 @@
 -- `value::operators::divide` meets its contract. Assumes nothing.
 use mathlib.Core.Path.{sym, _∙_}
-use Rattle.value.proofs.Cases.{divide-by-zero, divide-by-some}
+use Rattle.bits.proofs.Cases.{divide-by-zero, divide-by-some}
 use borrow.Author.Needs.{needs}
 use Rattle.value.proofs.operators.divide.Statement.{statement}
 use Rattle.value.proofs.operators.divide.Tie as tie

@@ -1,8 +1,8 @@
 -- `value::operators::left` meets its contract. Assumes nothing.
 use mathlib.Core.Path.{sym, _∙_}
 use Prim.Native.Nat.{_*_, _^_}
-use Rattle.value.proofs.Laws.{again}
-use Rattle.value.proofs.Cases.{left-past, left-within}
+use Rattle.bits.proofs.Laws.{again}
+use Rattle.bits.proofs.Cases.{left-past, left-within}
 use borrow.Author.Needs.{needs}
 use Rattle.value.proofs.operators.left.Statement.{statement}
 use Rattle.value.proofs.operators.left.Tie as tie

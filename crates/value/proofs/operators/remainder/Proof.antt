@@ -1,6 +1,6 @@
 -- `value::operators::remainder` meets its contract. Assumes nothing.
 use mathlib.Core.Path.{sym}
-use Rattle.value.proofs.Cases.{remainder-by-zero, remainder-by-some}
+use Rattle.bits.proofs.Cases.{remainder-by-zero, remainder-by-some}
 use borrow.Author.Needs.{needs}
 use Rattle.value.proofs.operators.remainder.Statement.{statement}
 use Rattle.value.proofs.operators.remainder.Tie as tie

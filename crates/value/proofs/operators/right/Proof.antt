@@ -1,6 +1,6 @@
 -- `value::operators::right` meets its contract. Assumes nothing.
 use mathlib.Core.Path.{sym}
-use Rattle.value.proofs.Cases.{right-past, right-within}
+use Rattle.bits.proofs.Cases.{right-past, right-within}
 use borrow.Author.Needs.{needs}
 use Rattle.value.proofs.operators.right.Statement.{statement}
 use Rattle.value.proofs.operators.right.Tie as tie

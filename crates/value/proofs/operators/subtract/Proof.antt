@@ -1,7 +1,7 @@
 -- `value::operators::subtract` meets its contract. Assumes nothing.
 use mathlib.Core.Path.{_∙_}
 use Rattle.language.specs.Values.{subtractOf}
-use Rattle.value.proofs.Laws.{minus}
+use Rattle.bits.proofs.Laws.{minus}
 use borrow.Author.Needs.{needs}
 use Rattle.value.proofs.operators.subtract.Statement.{statement}
 use Rattle.value.proofs.operators.subtract.Tie as tie

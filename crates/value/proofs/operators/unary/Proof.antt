@@ -5,7 +5,7 @@ use Prim.Native.Nat.{ℕ, _-_, _%_}
 use lib.Dec.{eqb}
 use Rattle.language.specs.Values.{oneBit, truth, unaryValue}
 use Rattle.language.specs.declared.Unary.{Unary}
-use Rattle.value.proofs.Counts.{ones-within}
+use Rattle.bits.proofs.Counts.{ones-within}
 use borrow.Author.Needs.{needs}
 use Rattle.value.proofs.operators.unary.Statement.{statement}
 use Rattle.value.proofs.operators.unary.Tie as tie

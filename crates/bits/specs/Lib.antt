@@ -1,0 +1,3 @@
+pub mod Masks
+pub mod Reversal
+pub mod Fits

@@ -1,0 +1,3 @@
+-- What the proofs share: the types that wait (Waiting); what an item writes (Writing).
+pub mod Waiting
+pub mod Writing

@@ -1,3 +1,0 @@
-pub mod Lookup
-pub mod Walk
-pub mod Tables

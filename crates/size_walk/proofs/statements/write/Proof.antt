@@ -1,0 +1,18 @@
+-- `size_walk::statements::write` meets its contract: its fault is that of its width. Assumes nothing.
+use borrow.Author.Needs.{needs}
+use Rattle.size_walk.specs.Effects.{writeEffect}
+use Rattle.size_walk.proofs.statements.write.Statement.{statement}
+use Rattle.size_walk.proofs.statements.write.Tie as tie
+
+fitted-requires : tie.Need-fitted-requires
+fitted-requires c κs = search needs
+
+ends-requires : tie.Need-ends-requires
+ends-requires c κs = search needs
+
+returns : tie.Need-returns
+unfolding writeEffect
+returns c = rw (c .before .fitted .ensures) at (c .ends .ensures)
+
+pub write-spec : {M : Type 1} → statement M
+write-spec = tie.close (tie.spec fitted-requires ends-requires returns)

@@ -1,8 +1,0 @@
-pub mod Laws
-pub mod Digits
-pub mod Counts
-pub mod Sets
-pub mod Cases
-pub mod Fits
-pub mod Parts
-pub mod Rules
