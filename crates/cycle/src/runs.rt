@@ -59,8 +59,8 @@ fn turns_in(
     requires { ⌜ soundOf (now plan) ≡ true ⌝ }
     requires { ⌜ tablesFit (now plan) (now masks) (now values) (now memory) (now outputs) (now answers) ≡ true ⌝ }
     requires { ⌜ Tables (now memory) (now stack) (now next) (now changed) ⌝ }
-    ensures { λ _. ⌜ result 0 (now (memory .exit)) (now (outputs .exit)) (now (answers .exit))
-        ≡ turnsOf (now (plan .entry)) (now (masks .entry)) (now (values .entry)) (now (memory .entry)) (now (outputs .entry)) ⌝ }
+    ensures { λ _. let after = result 0 (now (memory .exit)) (now (outputs .exit)) (now (answers .exit)) in
+        ⌜ after ≡ turnsOf (now (plan .entry)) (now (masks .entry)) (now (values .entry)) (now (memory .entry)) (now (outputs .entry)) ⌝ }
 {
     let n = place(port_count(plan));
     let mut at = 0usize;
@@ -96,8 +96,8 @@ pub fn turns(
 )
     requires { ⌜ soundOf (now plan) ≡ true ⌝ }
     requires { ⌜ tablesFit (now plan) (now masks) (now values) (now memory) (now outputs) (now answers) ≡ true ⌝ }
-    ensures { λ _. ⌜ result 0 (now (memory .exit)) (now (outputs .exit)) (now (answers .exit))
-        ≡ turnsOf (now (plan .entry)) (now (masks .entry)) (now (values .entry)) (now (memory .entry)) (now (outputs .entry)) ⌝ }
+    ensures { λ _. let after = result 0 (now (memory .exit)) (now (outputs .exit)) (now (answers .exit)) in
+        ⌜ after ≡ turnsOf (now (plan .entry)) (now (masks .entry)) (now (values .entry)) (now (memory .entry)) (now (outputs .entry)) ⌝ }
 {
     let mut stack = [0u64; WAITS];
     let mut next = [0u64; CELLS];

@@ -84,7 +84,10 @@ Wrote f size a v next₀ changed₀ clash₀ next changed clash =
     (memory : List ℕ) (qs : List (Change ℕ)) → f + size ≤ length memory → length memory ≤ length next₀ → length memory ≤ length changed₀ → Buffered memory next₀ changed₀ clash₀ qs
     → Buffered memory next changed clash (writeTo f size a v qs)
 
--- where the tables held a state with some writes, they hold what an item makes of it
-abbrev pub Stepped : (memory next₀ changed₀ : List ℕ) (clash₀ : Bool) (run : List (Change ℕ) → State) (stack : List ℕ) (n : ℕ) (slots outputs next changed : List ℕ) (clash : Bool) → Type 0
-Stepped memory next₀ changed₀ clash₀ run stack n slots outputs next changed clash =
-    (qs : List (Change ℕ)) → Buffered memory next₀ changed₀ clash₀ qs → Left memory stack n slots outputs next changed clash (run qs)
+-- whatever writes the tables held, they then hold what a run makes of them
+abbrev pub Carried : (held : List (Change ℕ) → Type 0) (run : List (Change ℕ) → State) (left : State → Type 0) → Type 0
+Carried held run left = (qs : List (Change ℕ)) → held qs → left (run qs)
+
+-- what an item makes of some writes, where n values wait in a stack
+abbrev pub itemRun : (values memory : List ℕ) → Item → (stack : List ℕ) (n : ℕ) (slots outputs : List ℕ) → List (Change ℕ) → State
+itemRun values memory i stack n slots outputs qs = exec1 values memory i (state (top stack n) slots outputs qs)

@@ -10,10 +10,10 @@ ghost use lib.ListN.{length, getD, set, drop};
 ghost use Rattle.plan.specs.Sound.{waiting};
 ghost use Rattle.plan.specs.Waits.{top};
 ghost use Rattle.plan.specs.Items.{takesOf, actsOf};
-ghost use Rattle.item_steps.specs.Machine.{state, cellOf, exec1};
+ghost use Rattle.item_steps.specs.Machine.{cellOf};
 ghost use Rattle.item_steps.specs.Machine.{pick as Machine·pick};
 ghost use Rattle.item_steps.specs.Tables.{Tables};
-ghost use Rattle.item_steps.specs.Ready.{Ready, leftBy, Wrote, Stepped};
+ghost use Rattle.item_steps.specs.Ready.{Ready, Buffered, Left, leftBy, Wrote, Carried, itemRun};
 use plan::Item;
 use plan::constant;
 use plan::place;
@@ -172,9 +172,10 @@ pub fn step(
     requires { ⌜ (n ≤ waiting) × Tables (now memory) (now stack) (now next) (now changed) ⌝ }
     requires { ⌜ Ready (now values) (now memory) (now stack) n (now slots) (now outputs) i ⌝ }
     ensures { λ r. ⌜ r .waits ≤ waiting ⌝ }
-    ensures { λ r. ⌜ Stepped (now (memory .entry)) (now (next .entry)) (now (changed .entry)) clash
-        (λ qs. exec1 (now (values .entry)) (now (memory .entry)) i (state (top (now (stack .entry)) n) (now (slots .entry)) (now (outputs .entry)) qs))
-        (now (stack .exit)) (r .waits) (now (slots .exit)) (now (outputs .exit)) (now (next .exit)) (now (changed .exit)) (r .clash) ⌝ }
+    ensures { λ r. let held = Buffered (now (memory .entry)) (now (next .entry)) (now (changed .entry)) clash in
+        let run = itemRun (now (values .entry)) (now (memory .entry)) i (now (stack .entry)) n (now (slots .entry)) (now (outputs .entry)) in
+        let left = Left (now (memory .entry)) (now (stack .exit)) (r .waits) (now (slots .exit)) (now (outputs .exit)) (now (next .exit)) (now (changed .exit)) (r .clash) in
+        ⌜ Carried held run left ⌝ }
 {
     match i {
         Item::Keep(k, _) => Next {

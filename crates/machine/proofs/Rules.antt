@@ -63,15 +63,24 @@ take-zeros (suc k) (suc n) h = ap (λ (l : List ℕ). 0 ∷ l) (take-zeros k n (
 part-zeros : (n m k : ℕ) → n ≡ m → m ≤ k → take (n - 0) (zeros k) ≡ zeros m
 part-zeros n m k e h = let z : n - 0 ≡ m = omega arith in ap (λ (i : ℕ). take i (zeros k)) z ∙ take-zeros m k h
 
-pub part-long : (n m k : ℕ) → n ≡ m → m ≤ k → length (take (n - 0) (zeros k)) ≡ m
-part-long n m k e h = ap length (part-zeros n m k e h) ∙ length-replicate m 0
+-- outputs that are 0: of a plan's ports, and how many there are
+module _ (os : List ℕ) (n m k : ℕ) (z : os ≡ zeros k) (e : n ≡ m) (h : m ≤ k) where
+  part-of-zeros : take (n - 0) os ≡ zeros m
+  part-of-zeros = ap (take (n - 0)) z ∙ part-zeros n m k e h
+
+  pub part-long : length (take (n - 0) os) ≡ m
+  part-long = ap length part-of-zeros ∙ length-replicate m 0
+
+  pub zeros-room : n ≤ length os
+  zeros-room = omega (arith, ap length z ∙ length-replicate k 0)
 
 -- what the rules leave in the part of the outputs that the plan has
-pub acted : (p values memory fired : List ℕ) (g n : ℕ) (ys rest : List ℕ) {next changed : List ℕ} {clash : Bool} → g ≡ groupCount p → n ≡ portCount p → portCount p ≤ 16
-    → length ys ≡ length (take (n - 0) (zeros 16)) → Ran memory ys next changed clash (execRules p values memory (take (g - 0) fired) (state [] [] (take (n - 0) (zeros 16)) []))
-    → Ran memory (take (portCount p) (ys ++ rest)) next changed clash (firedRun p values memory (take (groupCount p) fired))
-acted p values memory fired g n ys rest d e h l r =
-    let a : g - 0 ≡ groupCount p = omega arith in
-    let k : length ys ≡ portCount p = l ∙ part-long n (portCount p) 16 e h in
-    ran-as (record { output = take-at ys rest (portCount p) k ∙ r .output; write = r .write })
-    (ap₂ (λ (fs os : List ℕ). execRules p values memory fs (state [] [] os [])) (ap (λ (i : ℕ). take i fired) a) (part-zeros n (portCount p) 16 e h))
+module _ (p values memory fired os : List ℕ) (g n : ℕ) (d : g ≡ groupCount p) (e : n ≡ portCount p) (h : portCount p ≤ 16) (z : os ≡ zeros 16) where
+  pub acted : (ys rest : List ℕ) {next changed : List ℕ} {clash : Bool} → length ys ≡ length (take (n - 0) os)
+      → Ran memory ys next changed clash (execRules p values memory (take (g - 0) fired) (state [] [] (take (n - 0) os) []))
+      → Ran memory (take (portCount p) (ys ++ rest)) next changed clash (firedRun p values memory (take (groupCount p) fired))
+  acted ys rest l r =
+      let a : g - 0 ≡ groupCount p = omega arith in
+      let k : length ys ≡ portCount p = l ∙ part-long os n (portCount p) 16 z e h in
+      ran-as (record { output = take-at ys rest (portCount p) k ∙ r .output; write = r .write })
+      (ap₂ (λ (fs os : List ℕ). execRules p values memory fs (state [] [] os [])) (ap (λ (i : ℕ). take i fired) a) (part-of-zeros os n (portCount p) 16 z e h))

@@ -53,10 +53,6 @@ pub record Ran (memory outputs next changed : List ℕ) (clash : Bool) (s : Stat
 abbrev pub Held : (memory next changed : List ℕ) (clash : Bool) → Type 0
 Held memory next changed clash = (qs : List (Change ℕ)) × Buffered memory next changed clash qs
 
--- where they held some writes, they hold what a run over these leaves
-abbrev pub RanFrom : (memory next₀ changed₀ : List ℕ) (clash₀ : Bool) (run : List (Change ℕ) → State) (outputs next changed : List ℕ) (clash : Bool) → Type 0
-RanFrom memory next₀ changed₀ clash₀ run outputs next changed clash = (qs : List (Change ℕ)) → Buffered memory next₀ changed₀ clash₀ qs → Ran memory outputs next changed clash (run qs)
-
 -- some items from a place of the plan on
 abbrev pub itemsFrom : (p : List ℕ) (from items : ℕ) → List Item
 itemsFrom p from items = decodeAll (take (4 * items) (drop from p))

@@ -7,9 +7,9 @@ ghost use lib.ListN.{length, getD};
 ghost use Rattle.plan.specs.Layout.{portCount};
 ghost use Rattle.item_steps.specs.Machine.{state, execRules};
 ghost use Rattle.machine.specs.Fires.{Fires, ruleRun};
-ghost use Rattle.item_steps.specs.Ready.{Buffered};
+ghost use Rattle.item_steps.specs.Ready.{Buffered, Carried};
 ghost use Rattle.item_steps.specs.Tables.{Tables};
-ghost use Rattle.machine.specs.Safety.{Ran, Held, RanFrom, SafeItems, itemsRun};
+ghost use Rattle.machine.specs.Safety.{Ran, Held, SafeItems, itemsRun};
 use item_steps::step;
 use plan::code_at;
 use plan::fetch_sound;
@@ -31,9 +31,10 @@ fn run_items(
 ) -> bool
     requires { ⌜ SafeItems (now plan) (now values) (now memory) (now slots) (now outputs) from items ⌝ }
     requires { ⌜ Tables (now memory) (now stack) (now next) (now changed) × Held (now memory) (now next) (now changed) clash ⌝ }
-    ensures { λ r. ⌜ RanFrom (now (memory .entry)) (now (next .entry)) (now (changed .entry)) clash
-        (itemsRun (now (plan .entry)) (now (values .entry)) (now (memory .entry)) (now (slots .entry)) (now (outputs .entry)) from items)
-        (now (outputs .exit)) (now (next .exit)) (now (changed .exit)) r ⌝ }
+    ensures { λ r. let held = Buffered (now (memory .entry)) (now (next .entry)) (now (changed .entry)) clash in
+        let run = itemsRun (now (plan .entry)) (now (values .entry)) (now (memory .entry)) (now (slots .entry)) (now (outputs .entry)) from items in
+        let left = Ran (now (memory .entry)) (now (outputs .exit)) (now (next .exit)) (now (changed .exit)) r in
+        ⌜ Carried held run left ⌝ }
 {
     let end = from + 4 * items;
     let mut n = 0usize;
@@ -73,9 +74,10 @@ fn run_rule(
 ) -> bool
     requires { ⌜ Fires (now plan) (now values) (now memory) r × (length (now outputs) ≡ portCount (now plan)) ⌝ }
     requires { ⌜ Tables (now memory) (now stack) (now next) (now changed) × Held (now memory) (now next) (now changed) clash ⌝ }
-    ensures { λ x. ⌜ RanFrom (now (memory .entry)) (now (next .entry)) (now (changed .entry)) clash
-        (ruleRun (now (plan .entry)) (now (values .entry)) (now (memory .entry)) r (now (outputs .entry)))
-        (now (outputs .exit)) (now (next .exit)) (now (changed .exit)) x ⌝ }
+    ensures { λ x. let held = Buffered (now (memory .entry)) (now (next .entry)) (now (changed .entry)) clash in
+        let run = ruleRun (now (plan .entry)) (now (values .entry)) (now (memory .entry)) r (now (outputs .entry)) in
+        let left = Ran (now (memory .entry)) (now (outputs .exit)) (now (next .exit)) (now (changed .exit)) x in
+        ⌜ Carried held run left ⌝ }
 {
     let mut slots = [0u64; plan::SLOTS];
     let code = code_at(plan, r);
@@ -109,8 +111,9 @@ pub fn run_rules(
     requires { ⌜ ((j : ℕ) → j < length (now fired) → Fires (now plan) (now values) (now memory) (getD (now fired) j 0)) ⌝ }
     requires { ⌜ length (now outputs) ≡ portCount (now plan) ⌝ }
     requires { ⌜ Tables (now memory) (now stack) (now next) (now changed) × Buffered (now memory) (now next) (now changed) false [] ⌝ }
-    ensures { λ x. ⌜ Ran (now (memory .entry)) (now (outputs .exit)) (now (next .exit)) (now (changed .exit)) x
-        (execRules (now (plan .entry)) (now (values .entry)) (now (memory .entry)) (now (fired .entry)) (state [] [] (now (outputs .entry)) [])) ⌝ }
+    ensures { λ x. let before = state [] [] (now (outputs .entry)) [] in
+        let run = execRules (now (plan .entry)) (now (values .entry)) (now (memory .entry)) (now (fired .entry)) before in
+        ⌜ Ran (now (memory .entry)) (now (outputs .exit)) (now (next .exit)) (now (changed .exit)) x run ⌝ }
 {
     let mut clash = false;
     let mut j = 0usize;

@@ -6,7 +6,8 @@ mod tables;
 
 use code::run_rules;
 ghost use Prim.Native.Nat.{ℕ, _≤_, _<_};
-ghost use lib.ListN.{length, getD};
+ghost use mathlib.Core.Path.{_≡_};
+ghost use lib.ListN.{length, getD, replicate};
 ghost use Rattle.language.specs.Limits.{limits};
 ghost use Rattle.plan.specs.Layout.{portCount, groupCount};
 ghost use Rattle.machine.specs.Fires.{Fires, FiredRan};
@@ -17,35 +18,28 @@ use plan::port_count;
 pub use tables::copy;
 use tables::prepare;
 
-const PORTS: usize = language::Plan::PORTS as usize;
-
-// What the rules leave that fire: the outputs, and whether a cell was written twice.
-pub struct Acted {
-    pub outputs: [u64; PORTS],
-    pub clash: bool,
-}
-
-// The rules that fire, one of each group, over cells and outputs that nobody sees yet.
+// The rules that fire, one of each group, over cells and outputs that nobody sees yet: whether a cell was written twice.
 pub fn act(
     plan: &[u32],
     fired: &[u32],
     values: &[u64],
     memory: &[u64],
+    outputs: &mut [u64],
     stack: &mut [u64],
     next: &mut [u64],
     changed: &mut [u32],
-) -> Acted
+) -> bool
     requires { ⌜ (portCount (now plan) ≤ limits .ports) × (groupCount (now plan) ≤ length (now fired)) ⌝ }
+    requires { ⌜ now outputs ≡ replicate (limits .ports) 0 ⌝ }
     requires { ⌜ Tables (now memory) (now stack) (now next) (now changed) ⌝ }
     requires { ⌜ ((j : ℕ) → j < groupCount (now plan) → Fires (now plan) (now values) (now memory) (getD (now fired) j 0)) ⌝ }
-    ensures { λ r. ⌜ FiredRan (now (plan .entry)) (now (values .entry)) (now (memory .entry)) (now (fired .entry))
-        (r .outputs) (now (next .exit)) (now (changed .exit)) (r .clash) ⌝ }
+    ensures { λ x. ⌜ FiredRan (now (plan .entry)) (now (values .entry)) (now (memory .entry)) (now (fired .entry))
+        (now (outputs .exit)) (now (next .exit)) (now (changed .exit)) x ⌝ }
 {
     let groups = place(group_count(plan));
     let ports = place(port_count(plan));
-    let mut outputs = [0u64; PORTS];
     prepare(memory, next, changed);
-    let clash = run_rules(
+    run_rules(
         plan,
         &fired[0..groups],
         values,
@@ -54,9 +48,5 @@ pub fn act(
         stack,
         next,
         changed,
-    );
-    Acted {
-        outputs: outputs,
-        clash: clash,
-    }
+    )
 }

@@ -21,6 +21,8 @@ use machine::copy;
 
 const GROUPS: usize = language::Plan::GROUPS as usize;
 
+const PORTS: usize = language::Plan::PORTS as usize;
+
 // The answer of a cycle as 01's number, and the number of present ports, 0 where it is refused.
 pub struct Done {
     pub answer: u32,
@@ -70,11 +72,10 @@ pub fn turn(
     match judge(plan, mask, values, memory, &mut fired) {
         Judged::Refuse(answer) => refused(answer),
         Judged::Act => {
-            let acted = act(plan, &fired, values, memory, stack, next, changed);
-            if acted.clash {
+            let mut held = [0u64; PORTS];
+            if act(plan, &fired, values, memory, &mut held, stack, next, changed) {
                 return refused(Answer::Clash);
             }
-            let held = acted.outputs;
             commit(memory, next, outputs, &held);
             Done {
                 answer: number(Answer::Accepted),
