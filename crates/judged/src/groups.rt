@@ -16,7 +16,6 @@ use plan::groups_from;
 use plan::groups_in;
 use plan::masks_in;
 use plan::place;
-use plan::rules_from;
 
 // The one rule of a group that matches, or why there is none.
 pub enum Match {
@@ -33,12 +32,11 @@ fn rule_matches(plan: &[u32], from: usize, mask: u32, r: u32) -> bool
     matches(mask, masks.present, masks.absent)
 }
 
-// The one rule of n from `first` on that matches.
-fn only(plan: &[u32], mask: u32, first: u32, n: u32) -> Match
-    requires { ⌜ first + n ≤ greatest ⌝ }
+// The one rule of n from `first` on that matches, where the rules' section is known.
+fn only(plan: &[u32], from: usize, mask: u32, first: u32, n: u32) -> Match
+    requires { ⌜ (from ≡ rulesFrom (now plan)) × (from < farthest) × (first + n ≤ greatest) ⌝ }
     ensures { λ r. ⌜ r ≡ onlyOf (matching (now (plan .entry)) mask first n) ⌝ }
 {
-    let from = rules_from(plan);
     let mut found = false;
     let mut rule = 0u32;
     let mut i = 0u32;
@@ -66,11 +64,13 @@ pub fn fire(plan: &[u32], mask: u32, fired: &mut [u32]) -> Judged
 {
     let from = groups_from(plan);
     let groups = groups_in(plan, from);
+    // the rules' section follows that of the groups
+    let rules = from + 1 + place(groups);
     let mut first = 0u32;
     let mut g = 0u32;
     while g < groups {
         let n = group_in(plan, from, g);
-        match only(plan, mask, first, n) {
+        match only(plan, rules, mask, first, n) {
             Match::Rule(rule) => {
                 let q = place(g);
                 fired[q] = rule;
