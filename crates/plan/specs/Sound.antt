@@ -21,6 +21,13 @@ waiting = 256
 abbrev pub slots : ℕ
 slots = 48
 
+-- those of the `case`s come after those of the `val`s: the one that a `case` inside d others keeps what it selects by in, and the one by which an arm inside d goes
+abbrev pub caseSlot : ℕ → ℕ
+caseSlot d = limits .vals + d
+
+abbrev pub armSlot : ℕ → ℕ
+armSlot d = limits .vals - 1 + d
+
 -- the width of a slot that was not kept: no width, 64 at most, is as large
 abbrev pub unset : ℕ
 unset = 99

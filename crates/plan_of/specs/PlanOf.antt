@@ -17,6 +17,7 @@ use Rattle.language.specs.Meaning.{cellsBefore, cellsOf, portAt, positionIn}
 use Rattle.plan.specs.declared.Item.{Item}
 use Rattle.plan.specs.declared.Item.the-variants.{Const, Port, Let as Kept, Cell, Range, Copies, Beside, Before, Between, Choice, Arm, Keep, Assign, Write, Bad}
 use Rattle.plan.specs.Items.{encode}
+use Rattle.plan.specs.Sound.{caseSlot, armSlot}
 
 -- the slots of the `let`s in force: what each is called, its slot and its extent
 pub record Slot : Type 0 where
@@ -45,7 +46,7 @@ module _ (s : Setting) where
     unfoldable pub readItem : List ℕ → Item
     readItem n = elim (letNamed lets n) [ some x ↦ Kept (x .number) | none ↦ Port (portAt s n) ]
 
-    -- `d` cases stand around, in whose arms the expression is: slot 16 + d is free
+    -- `d` cases stand around, in whose arms the expression is: the slot of a further one is free
     unfoldable pub code : ℕ → Expr → List Item
     code d (plain n) = constant (plainWidth (n .value)) (n .value)
     code d (sized w a) = constant (breadthOf s w) (amountOf s a)
@@ -61,8 +62,8 @@ module _ (s : Setting) where
     code d (binary o a b) = code d a ++ (code d b ++ (Between o (wideOf a) (wideOf b) ∷ []))
     code d (choice c a b) = code d c ++ (code d a ++ (code d b ++ (Choice ∷ [])))
     code d (either p c a b) = code d c ++ (code d a ++ (code d b ++ (Choice ∷ [])))
-    code d (select p e a) = code d e ++ (Keep (16 + d) (wideOf e) ∷ code (suc d) a)
-    code d (arm n e r) = code d e ++ (code d r ++ (Arm (n .value) (15 + d) ∷ []))
+    code d (select p e a) = code d e ++ (Keep (caseSlot d) (wideOf e) ∷ code (suc d) a)
+    code d (arm n e r) = code d e ++ (code d r ++ (Arm (n .value) (armSlot d) ∷ []))
     code d (default p e) = code d e
 
     unfoldable pub assignmentCode : Assignment → List Item

@@ -10,6 +10,7 @@ use Rattle.words.specs.Found.{earlierOf}
 use Rattle.plan.specs.declared.Item.{Item}
 use Rattle.plan.specs.declared.Item.the-variants.{Const, Port, Let, Cell, Range, Copies, Beside, Before, Between, Choice, Arm, Keep, Assign, Write, Bad}
 use Rattle.plan.specs.Items.{unaryItem, binaryItem}
+use Rattle.plan.specs.Sound.{caseSlot, armSlot}
 use Rattle.settled.specs.Form.{BIG, AMOUNT, PLAIN, COPIES, READ, CELL, HELD, RANGE, START, JOINED, BESIDE, UNARY, BINARY, CHOICE, EITHER, SELECT, SELECTED, ARM, ASSIGN, WRITE, TYPED, VAL}
 use Rattle.size_walk.specs.declared.Effect.{Effect}
 use Rattle.size_walk.specs.declared.Emits.{Emits}
@@ -148,10 +149,10 @@ module _ (v : Seen) where
   selectedEffect p = throughOf (has (v .x) && has (v .y)) 2 p Nothing (givesOf 2 (v .x) p Nowhere Nothing)
 
   unfoldable pub armEffect : ℕ → ℕ → Effect
-  armEffect p n = throughOf (has (v .x) && has (v .y)) 2 p (Adds (Arm n (15 + v .cases))) (givesOf 2 (max (v .y) (v .x)) p Nowhere (Adds (Arm n (15 + v .cases))))
+  armEffect p n = throughOf (has (v .x) && has (v .y)) 2 p (Adds (Arm n (armSlot (v .cases)))) (givesOf 2 (max (v .y) (v .x)) p Nowhere (Adds (Arm n (armSlot (v .cases)))))
 
   unfoldable pub selectEffect : Effect
-  selectEffect = endsOf 0 Nowhere (Adds (Keep (16 + v .cases) (v .x)))
+  selectEffect = endsOf 0 Nowhere (Adds (Keep (caseSlot (v .cases)) (v .x)))
 
   -- ---- what ends a statement: "a wider one is refused"
 
