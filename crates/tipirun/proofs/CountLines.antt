@@ -1,12 +1,12 @@
 -- A count with the end of its line, as document 01 has it and as the machine meets it. Assumes nothing.
-use mathlib.Core.Path.{_≡_, refl, sym, ap, ap₂, _∙_, subst}
-use mathlib.Core.Bool.{Bool, true, false, false≢true, _&&_}
+use mathlib.Core.Path.{_≡_, refl, sym, ap, _∙_, subst}
+use mathlib.Core.Bool.{Bool, true, false}
 use mathlib.Core.List.{List, [], _∷_, _++_}
-use Prim.Native.Nat.{ℕ, zero, suc, _+_, _-_, _*_, _^_, _≤_, _<_, min}
+use Prim.Native.Nat.{ℕ, suc, _+_, _-_, _*_, _^_, _≤_, min}
 use native.Mathlib.Omega.{arith}
-use native.Mathlib.Nat.{pow-suc, mul-le-mul-right, mul-le-mul-left, mul-assoc, mul-comm}
-use borrow.Author.Tests.{lt-ltb, le-ltb, le-leb, eq-eqb, ne-eqb, ltb-true, ltb-false, leb-true, eqb-true, eqb-false}
-use lib.Dec.{eqb, leb, ltb}
+use native.Mathlib.Nat.{pow-suc, mul-le-mul-right}
+use borrow.Author.Tests.{lt-ltb, le-ltb, le-leb, ltb-true, ltb-false, eqb-true, eqb-false}
+use lib.Dec.{eqb, ltb}
 use lib.ListN.{length}
 use Rattle.language.specs.Words.{digit}
 use Rattle.language.specs.Bindings.{Got, got, lost, after, byte, digitsFrom, numberUpTo}
@@ -14,80 +14,15 @@ use Rattle.language.specs.Worked.{isBad, anyNumber}
 use Rattle.language.specs.Reading.{Answer}
 use Rattle.figures.specs.declared.Stage.{Stage}
 use Rattle.figures.specs.declared.Stage.the-variants.{ActorCount, Actor, BindingsCount, Bindings, CycleCount, Line, Wrong}
-use Rattle.figures.specs.declared.State.{State}
 use Rattle.figures.specs.States.{startOf, wrongOf, takesOf, longerOf}
-use Rattle.tipirun.specs.Reading.{countByte}
-use Rattle.tipirun.specs.Machine.{Machine, machine, stated, movedAt, movedOf, passedAt, atBindings, passedBy, Judges, Stepped, unwritten, endedAt, endedOf}
+use Rattle.input_bytes.specs.Texts.{countByte}
+use Rattle.input_bytes.specs.Bytes.{Machine, machine, stated, movedAt, movedOf, endedAt}
+use Rattle.tipirun.specs.Machine.{passedAt, passedBy, Judges, unwritten}
 use Rattle.figures.proofs.Counting.{takes-none, takes-first, takes-next}
-use Rattle.tipirun.proofs.Counting.{count-takes, count-unbegun, count-wrong, count-ends}
-use Rattle.tipirun.proofs.Stages.{ended-bad}
-use Rattle.tipirun.proofs.Onward.{From, More, more, none, Quiet, step-to, on-to, closed, wrong-closed}
-
--- ---- the definitions' way: digits, and a newline
-
-abbrev pub lineEnd : ℕ → List ℕ → Got ℕ
-lineEnd n r = byte 10 r (λ x. got n x)
-
-pub digit-range : (b : ℕ) → digit b ≡ true → (48 ≤ b) × (b ≤ 57)
-unfolding digit
-digit-range b e = go (leb 48 b) refl (leb b 57) refl e
-  where
-    go : (x : Bool) → leb 48 b ≡ x → (y : Bool) → leb b 57 ≡ y → x && y ≡ true → (48 ≤ b) × (b ≤ 57)
-    go true p true q r = (leb-true 48 b p, leb-true b 57 q)
-    go true p false q r = absurd (false≢true r)
-    go false p y q r = absurd (false≢true r)
-
-module _ (most n b : ℕ) (bs : List ℕ) where
-  pub stop-other : digit b ≡ false → digitsFrom most n (b ∷ bs) ≡ got n (b ∷ bs)
-  unfolding digitsFrom
-  stop-other e = simp (digitsFrom, e)
-
-  pub stop-zero : digit b ≡ true → ltb 0 n ≡ false → digitsFrom most n (b ∷ bs) ≡ got n (b ∷ bs)
-  unfolding digitsFrom
-  stop-zero e f = simp (digitsFrom, e, f)
-
-  pub digit-more : digit b ≡ true → ltb 0 n ≡ true → leb (n * 10 + (b - 48)) most ≡ true → digitsFrom most n (b ∷ bs) ≡ digitsFrom most (n * 10 + (b - 48)) bs
-  unfolding digitsFrom
-  digit-more e f g = simp (digitsFrom, e, f, g)
-
-  end-here : digitsFrom most n (b ∷ bs) ≡ got n (b ∷ bs) → b ≡ 10 → after (digitsFrom most n (b ∷ bs)) lineEnd ≡ got n bs
-  unfolding after byte
-  end-here e f = ap (λ (y : Got ℕ). after y lineEnd) e ∙ simp (byte, eq-eqb 10 b (sym f))
-
-  end-lost : digitsFrom most n (b ∷ bs) ≡ got n (b ∷ bs) → (b ≡ 10 → ⊥) → after (digitsFrom most n (b ∷ bs)) lineEnd ≡ lost (b ∷ bs)
-  unfolding after byte
-  end-lost e f = ap (λ (y : Got ℕ). after y lineEnd) e ∙ simp (byte, ne-eqb 10 b (λ q. f (sym q)))
-
-pub first-digit : (most b : ℕ) (bs : List ℕ) → digit b ≡ true → numberUpTo most (b ∷ bs) ≡ digitsFrom most (b - 48) bs
-unfolding numberUpTo
-first-digit most b bs e = simp (numberUpTo, e)
-
-pub no-digit : (most b : ℕ) (bs : List ℕ) → digit b ≡ false → numberUpTo most (b ∷ bs) ≡ lost (b ∷ bs)
-unfolding numberUpTo
-no-digit most b bs e = simp (numberUpTo, e)
-
--- ---- numbers: no count is above what its bytes can spell, and what passes 64 bits stays there
-
-regroup : (x p : ℕ) → (x * 10) * p ≡ x * (p * 10)
-regroup x p = mul-assoc x 10 p ∙ ap (λ (y : ℕ). x * y) (mul-comm 10 p)
-
-room-next : (n d k most : ℕ) → d ≤ 9 → suc n * 10 ^ suc k ≤ most → suc (n * 10 + d) * 10 ^ k ≤ most
-room-next n d k most h q =
-    let a : suc (n * 10 + d) ≤ suc n * 10 = omega arith in
-    let b = mul-le-mul-right (10 ^ k) a in
-    let c = regroup (suc n) (10 ^ k) in
-    let e : suc n * 10 ^ suc k ≡ suc n * (10 ^ k * 10) = ap (λ (y : ℕ). suc n * y) (pow-suc 10 k) in
-    omega arith
-
-one-le : (k : ℕ) → 1 ≤ 10 ^ k
-one-le zero = omega arith
-one-le (suc k) = let e = pow-suc 10 k in let h = one-le k in omega arith
-
-fits-next : (n k most : ℕ) → suc n * 10 ^ k ≤ most → n ≤ most
-fits-next n k most q = let a = mul-le-mul-left (suc n) (one-le k) in omega arith
-
-saturated : (n d x : ℕ) → x ≡ min n 18_446_744_073_709_551_615 → min (x * 10 + d) 18_446_744_073_709_551_615 ≡ min (n * 10 + d) 18_446_744_073_709_551_615
-saturated n d x e = omega arith
+use Rattle.input_bytes.proofs.Counting.{count-takes, count-unbegun, count-wrong, count-ends}
+use Rattle.input_bytes.proofs.Endings.{ended-bad}
+use Rattle.tipirun.proofs.Onward.{From, more, none, Quiet, on-to, closed, wrong-closed}
+use Rattle.input_bytes.proofs.Numbers.{lineEnd, digit-range, stop-other, stop-zero, digit-more, end-here, end-lost, first-digit, no-digit, room-next, fits-next, saturated}
 
 -- ---- the machine's way
 

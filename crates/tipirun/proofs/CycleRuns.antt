@@ -1,33 +1,32 @@
 -- The cycles of a run, from a plan that agrees with its text: what is written is what document 01 says. Assumes nothing: what a plan has to agree in is a record, `Agrees`.
 use mathlib.Core.Path.{_≡_, refl, sym, ap, ap₂, _∙_, subst}
-use mathlib.Core.Bool.{Bool, true, false}
-use mathlib.Core.List.{List, [], _∷_, _++_}
-use Prim.Native.Nat.{ℕ, zero, suc, _+_, _-_, _*_, _≤_, _<_, min}
+use mathlib.Core.Bool.{false}
+use mathlib.Core.List.{List, [], _++_}
+use Prim.Native.Nat.{ℕ, zero, suc, _+_, _-_, _≤_}
 use native.Mathlib.Omega.{arith}
-use lib.ListN.{length, take, drop, length-take, length-append}
+use lib.ListN.{length, take, drop}
 use lib.Seq.{take-at, length-take-le}
 use Rattle.language.specs.Bindings.{Got, got, lost}
 use Rattle.language.specs.Sizes.{Setting}
-use Rattle.language.specs.Meaning.{Given, Outcome, cycle, cellWidths}
+use Rattle.language.specs.Meaning.{Outcome, cycle, cellWidths}
 use Rattle.language.specs.Worked.{CycleRead, isBad, line, cycleLine, turn, cycles}
 use Rattle.plan_of.specs.PlanOf.{planOf}
 use Rattle.turn.specs.Cycle.{cycleOf}
-use Rattle.figures.specs.declared.Stage.{Stage}
 use Rattle.figures.specs.declared.Stage.the-variants.{Line, Through}
 use Rattle.figures.specs.declared.State.{State}
 use Rattle.figures.specs.States.{startOf}
-use Rattle.tipirun.specs.Lines.{cellsOf, doneOf, outputsAfter, memoryAfter, turnedState, turnedOf}
+use Rattle.input_bytes.specs.Lines.{cellsOf, doneOf, outputsAfter, memoryAfter, turnedOf}
 use Rattle.cycle_line.specs.Shown.{portsOf, shownOf}
-use Rattle.tipirun.specs.Machine.{Machine, machine, stated, lined, passedBy, unwritten, endedAt, endedOf}
+use Rattle.input_bytes.specs.Bytes.{Machine, machine, stated, lined, endedOf}
+use Rattle.tipirun.specs.Machine.{passedBy}
 use Rattle.tipirun.proofs.Stages.{over-line, same-plan}
 use Rattle.tipirun.proofs.Onward.{From, closed, through-closed}
 use Rattle.tipirun.proofs.CountLines.{Enters}
 use Rattle.tipirun.proofs.TextRuns.{still-comes}
-use Rattle.tipirun.proofs.Lengths.{cycle-cells, cycle-slots}
-use Rattle.tipirun.proofs.LineValues.{After, Slots, Run, Turns, planTurn, turn-run}
-
-abbrev pub givenOf : CycleRead → List ℕ → Given
-givenOf t memory = record { mask = t .mask; values = t .values; memory = memory }
+use Rattle.input_bytes.proofs.Lengths.{cycle-cells, cycle-slots}
+use Rattle.tipirun.proofs.LineValues.{Slots, Turns, turn-run}
+use Rattle.input_bytes.proofs.Signatures.{planTurn}
+use Rattle.input_bytes.proofs.Spent.{givenOf}
 
 -- a plan as its text has it
 pub record Agrees (s : Setting) : Type 0 where

@@ -12,7 +12,8 @@ use Rattle.tipi.proofs.Theorems.{reads-once}
 use Rattle.figures.specs.declared.Stage.{Stage}
 use Rattle.figures.specs.declared.Stage.the-variants.{ActorCount, Actor, BindingsCount, Bindings, CycleCount, Line, Through, Wrong, Stopped}
 use Rattle.figures.specs.declared.State.{State}
-use Rattle.tipirun.specs.Machine.{Machine, movedOf, passedAt, passedOf, planPassed, passedBy, atBindings, whole, Judges, Stepped, unwritten, preceded, Runs, stays, goes, started, endedOf, Prints, prints}
+use Rattle.input_bytes.specs.Bytes.{Machine, movedOf, endedOf}
+use Rattle.tipirun.specs.Machine.{passedAt, passedOf, planPassed, passedBy, atBindings, whole, Judges, Stepped, unwritten, preceded, Runs, stays, goes, started, Prints, prints}
 
 -- where the texts are not read now, nothing goes by what they would be read as
 stage-alike : (x y : Answer) (g : Stage) (s : State) (l : List ℕ) → atBindings g ≡ false → passedAt x g s l ≡ passedAt y g s l

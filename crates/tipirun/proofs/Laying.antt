@@ -25,9 +25,9 @@ use Rattle.plan_of.specs.PlanOf.{planOf}
 use Rattle.plan_of.specs.Theorems.{Planned}
 use Rattle.plan_of.proofs.Read.{reads-accepted}
 use Rattle.plan_of.proofs.Theorems.{reads-planned}
-use Rattle.tipirun.specs.Lines.{cellsOf}
+use Rattle.input_bytes.specs.Lines.{cellsOf}
 use Rattle.cycle_line.specs.Shown.{portsOf}
-use Rattle.tipirun.proofs.Signatures.{Kinds, no-port, a-port}
+use Rattle.input_bytes.proofs.Signatures.{Kinds, no-port, a-port}
 
 -- the ports of a plan are those of the signature, inputs and outputs, and its cells those of the memories
 pub record Laid (s : Setting) : Type 0 where

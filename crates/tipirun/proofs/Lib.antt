@@ -1,5 +1,3 @@
-pub mod Counting
-pub mod Ends
 pub mod Stages
 pub mod Bytewise
 pub mod Onward
@@ -9,10 +7,7 @@ pub mod Opening
 pub mod Shown
 pub mod LineNumbers
 pub mod LineValues
-pub mod Lengths
 pub mod CycleRuns
-pub mod Signatures
 pub mod Laying
-pub mod Spent
 pub mod Decided
 pub mod Worked

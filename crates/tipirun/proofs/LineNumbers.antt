@@ -1,27 +1,26 @@
 -- A number of a cycle's line, as document 01 has it and as the machine meets it: a mask under 2^32, a value under 2^64. Assumes nothing.
-use mathlib.Core.Path.{_≡_, refl, sym, ap, ap₂, _∙_, subst}
-use mathlib.Core.Bool.{Bool, true, false, false≢true, _&&_}
-use mathlib.Core.List.{List, [], _∷_, _++_}
-use Prim.Native.Nat.{ℕ, zero, suc, _+_, _-_, _*_, _≤_, _<_, min}
+use mathlib.Core.Path.{_≡_, refl, sym, ap, _∙_, subst}
+use mathlib.Core.Bool.{Bool, true, false}
+use mathlib.Core.List.{List, [], _∷_}
+use Prim.Native.Nat.{ℕ, _+_, _-_, _*_, _≤_, _<_, min}
 use native.Mathlib.Omega.{arith}
-use borrow.Author.Tests.{le-leb, leb-true, leb-false, eq-eqb, ne-eqb, eqb-true, eqb-false}
+use borrow.Author.Tests.{le-leb, leb-true, eqb-true, eqb-false}
 use lib.Dec.{eqb, leb, ltb}
-use lib.ListN.{length}
 use Rattle.language.specs.Words.{digit}
 use Rattle.language.specs.Bindings.{Got, got, lost, digitsFrom, numberUpTo}
 use Rattle.language.specs.Worked.{isBad}
 use Rattle.figures.specs.declared.Stage.{Stage}
 use Rattle.figures.specs.declared.Stage.the-variants.{Line, Wrong}
 use Rattle.figures.specs.declared.State.{State}
-use Rattle.figures.specs.States.{wrongOf, grownOf, mostOf, takesOf, staysOf, lineTakes, longerOf}
-use Rattle.tipirun.specs.Lines.{Lined, unturned, lineByte}
-use Rattle.tipirun.specs.Machine.{Machine, machine, stated, lined, movedAt, movedOf, unwritten, endedAt}
+use Rattle.figures.specs.States.{wrongOf, grownOf, mostOf, staysOf, lineTakes, longerOf}
+use Rattle.input_bytes.specs.Lines.{unturned, lineByte}
+use Rattle.input_bytes.specs.Bytes.{Machine, machine, stated, lined, movedAt, movedOf}
 use Rattle.figures.proofs.Counting.{takes-none, takes-first, takes-next, most-mask, most-value}
 use Rattle.figures.proofs.Counting.{line-first, line-none}
-use Rattle.tipirun.proofs.Ends.{line-takes, line-unbegun}
-use Rattle.tipirun.proofs.Stages.{ended-bad}
+use Rattle.input_bytes.proofs.Ends.{line-takes, line-unbegun}
+use Rattle.input_bytes.proofs.Endings.{ended-bad}
 use Rattle.tipirun.proofs.Onward.{From, none, on-to, closed, wrong-closed}
-use Rattle.tipirun.proofs.CountLines.{Enters, digit-range, stop-other, stop-zero, digit-more, first-digit, no-digit}
+use Rattle.input_bytes.proofs.Numbers.{digit-range, stop-other, stop-zero, digit-more, first-digit, no-digit}
 use Rattle.tipirun.proofs.TextRuns.{enters-by, still-comes}
 
 -- no bound is below 9 or above 64 bits

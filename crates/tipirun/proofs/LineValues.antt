@@ -1,13 +1,13 @@
 -- The values of a cycle's line, one for each input of the plan, and the end of the line, at which the cycle is run. Assumes nothing.
-use mathlib.Core.Path.{_≡_, refl, sym, ap, ap₂, _∙_, subst}
+use mathlib.Core.Path.{_≡_, refl, sym, ap, _∙_, subst}
 use mathlib.Core.Bool.{Bool, true, false}
 use mathlib.Core.List.{List, [], _∷_, _++_, append-assoc, append-nil}
-use Prim.Native.Nat.{ℕ, zero, suc, _+_, _-_, _*_, _≤_, _<_, min}
+use Prim.Native.Nat.{ℕ, zero, suc, _+_, _-_, _≤_, _<_}
 use native.Mathlib.Omega.{arith}
 use native.Mathlib.Numerals.{add-one}
-use borrow.Author.Tests.{lt-ltb, le-ltb, ltb-true, ltb-false, eq-eqb, ne-eqb, eqb-true, eqb-false}
-use lib.Dec.{eqb, leb, ltb}
-use lib.ListN.{length, getD, take, drop, set, length-set}
+use borrow.Author.Tests.{ltb-true, ltb-false, eqb-true, eqb-false}
+use lib.Dec.{eqb, ltb}
+use lib.ListN.{length, getD, take, set, length-set}
 use lib.Seq.{take-suc, take-suc-set, getD-set-other}
 use Rattle.language.specs.Bindings.{Got, got, lost, after, byte, numberUpTo}
 use Rattle.language.specs.Worked.{CycleRead, isBad}
@@ -15,17 +15,19 @@ use Rattle.plan.specs.Layout.{portAt}
 use Rattle.figures.specs.declared.Stage.{Stage}
 use Rattle.figures.specs.declared.Stage.the-variants.{Line}
 use Rattle.figures.specs.declared.State.{State}
-use Rattle.figures.specs.States.{wrongOf, grownOf, portOf, mostOf, lineTakes}
-use Rattle.tipirun.specs.Lines.{Lined, inputFrom, nextInput, unturned, maskAfter, valuesAfter, turnedOf, numberEnds, lineByte}
+use Rattle.figures.specs.States.{grownOf, portOf, mostOf, lineTakes}
+use Rattle.input_bytes.specs.Lines.{Lined, inputFrom, nextInput, unturned, maskAfter, valuesAfter, turnedOf, numberEnds, lineByte}
 use Rattle.cycle_line.specs.Shown.{portsOf}
-use Rattle.tipirun.specs.Machine.{Machine, machine, stated, lined, movedAt, movedOf, passedBy, Judges, unwritten}
+use Rattle.input_bytes.specs.Bytes.{Machine, machine, stated, lined, movedAt, movedOf}
+use Rattle.tipirun.specs.Machine.{passedBy, Judges, unwritten}
 use Rattle.figures.proofs.Counting.{most-mask, most-value}
-use Rattle.tipirun.proofs.Counting.{input-first, mask-new, mask-old, values-old, values-new}
-use Rattle.tipirun.proofs.Ends.{line-ends, blank-wrong, blank-next, end-wrong, end-turn}
+use Rattle.input_bytes.proofs.Counting.{input-first, mask-new, mask-old, values-old, values-new}
+use Rattle.input_bytes.proofs.Ends.{line-ends, blank-wrong, blank-next, end-wrong, end-turn}
 use Rattle.tipirun.proofs.Onward.{From, more}
 use Rattle.tipirun.proofs.CountLines.{Enters}
 use Rattle.tipirun.proofs.TextRuns.{enters-by, still-comes}
 use Rattle.tipirun.proofs.LineNumbers.{Ended, Numbered, line-wrong, line-cut, line-number}
+use Rattle.input_bytes.proofs.Signatures.{valuesFrom, planTurn}
 
 -- a byte that writes, and what is written after it
 pub record After (t : Machine) (bs out : List ℕ) : Type 0 where
@@ -52,15 +54,6 @@ abbrev pub lineOver : List ℕ → List ℕ → Got (List ℕ)
 lineOver l x = byte 10 x (λ y. got l y)
 
 module _ (p : List ℕ) where
-  -- a value for each input among k ports from i on, 0 for an output
-  unfoldable pub valuesFrom : ℕ → ℕ → List ℕ → Got (List ℕ)
-  valuesFrom zero i bs = got [] bs
-  valuesFrom (suc k) i bs =
-      elim (ltb (portAt p i) 256) [
-        | true ↦ byte 32 bs (λ r. after (numberUpTo 18_446_744_073_709_551_615 r) (λ v x. after (valuesFrom k (i + 1) x) (λ l y. got (v ∷ l) y)))
-        | false ↦ after (valuesFrom k (i + 1) bs) (λ l y. got (0 ∷ l) y)
-      ]
-
   -- the slots of outputs hold 0
   pub record Slots (v : List ℕ) : Type 0 where
     pub long : portsOf p ≤ length v
@@ -151,11 +144,11 @@ module _ (p : List ℕ) where
   unfolding inputFrom
   from-past k i f = simp (inputFrom, f)
 
-  input-values : (k i : ℕ) (r : List ℕ) → ltb (portAt p i) 256 ≡ true → valuesFrom (suc k) i r ≡ byte 32 r (λ r. after (numberUpTo 18_446_744_073_709_551_615 r) (λ v x. after (valuesFrom k (i + 1) x) (λ l y. got (v ∷ l) y)))
+  input-values : (k i : ℕ) (r : List ℕ) → ltb (portAt p i) 256 ≡ true → valuesFrom p (suc k) i r ≡ byte 32 r (λ r. after (numberUpTo 18_446_744_073_709_551_615 r) (λ v x. after (valuesFrom p k (i + 1) x) (λ l y. got (v ∷ l) y)))
   unfolding valuesFrom
   input-values k i r f = simp (valuesFrom, f)
 
-  output-values : (k i : ℕ) (r : List ℕ) → ltb (portAt p i) 256 ≡ false → valuesFrom (suc k) i r ≡ after (valuesFrom k (i + 1) r) (λ l y. got (0 ∷ l) y)
+  output-values : (k i : ℕ) (r : List ℕ) → ltb (portAt p i) 256 ≡ false → valuesFrom p (suc k) i r ≡ after (valuesFrom p k (i + 1) r) (λ l y. got (0 ∷ l) y)
   unfolding valuesFrom
   output-values k i r f = simp (valuesFrom, f)
 
@@ -181,7 +174,7 @@ module _ (p : List ℕ) where
   abbrev Goes : ℕ → ℕ → List ℕ → Type 0
   Goes k i out =
       (m : Machine) (s : State) (v : ℕ) (r : List ℕ) → s .stage ≡ Line → 0 < s .left → take (s .plan) (m .plan) ≡ p → nextInput p (s .port) ≡ inputFrom p k i → Slots (valuesAfter (grownOf s v) (m .values)) → Ended m s out v r
-      → Finish s m (maskAfter (grownOf s v)) (take i (valuesAfter (grownOf s v) (m .values))) out (after (valuesFrom k i r) lineOver)
+      → Finish s m (maskAfter (grownOf s v)) (take i (valuesAfter (grownOf s v) (m .values))) out (after (valuesFrom p k i r) lineOver)
 
   output-next : (k i : ℕ) (out : List ℕ) → i < portsOf p → ltb (portAt p i) 256 ≡ false → Goes k (i + 1) out → Goes (suc k) i out
   output-next k i out a f ih m s v r e h plan q z x =
@@ -189,14 +182,14 @@ module _ (p : List ℕ) where
       let l = z .long in
       let b : take (i + 1) w ≡ take i w ++ (0 ∷ []) = ap (λ (j : ℕ). take j w) (add-one i) ∙ take-suc w i 0 (omega arith) ∙ ap (λ (y : ℕ). take i w ++ (y ∷ [])) (z .zeros i a (ltb-false (portAt p i) 256 f)) in
       subst (λ (y : Got (List ℕ)). Finish s m (maskAfter (grownOf s v)) (take i w) out (after y lineOver)) (sym (output-values k i r f))
-      (one-more s m (maskAfter (grownOf s v)) 0 (take i w) out (valuesFrom k (i + 1) r)
-      (subst (λ (y : List ℕ). Finish s m (maskAfter (grownOf s v)) y out (after (valuesFrom k (i + 1) r) lineOver)) b (ih m s v r e h plan (q ∙ from-past k i f) z x)))
+      (one-more s m (maskAfter (grownOf s v)) 0 (take i w) out (valuesFrom p k (i + 1) r)
+      (subst (λ (y : List ℕ). Finish s m (maskAfter (grownOf s v)) y out (after (valuesFrom p k (i + 1) r) lineOver)) b (ih m s v r e h plan (q ∙ from-past k i f) z x)))
 
   -- the value of an input is w, before the bytes x
   value-next : (k i : ℕ) (out : List ℕ) → i + suc k ≡ portsOf p → portAt p i < 256 → Goes k (i + 1) out → (m : Machine) (s : State) (v : ℕ) → s .stage ≡ Line → 0 < s .left → take (s .plan) (m .plan) ≡ p → Slots (valuesAfter (grownOf s v) (m .values))
       → (w : ℕ) (x : List ℕ)
       → Ended (machine (m .state) (m .actor) (m .bindings) (m .plan) (valuesAfter (grownOf s v) (m .values)) (m .outputs) (m .memory) []) (portOf (grownOf s v) (maskAfter (grownOf s v)) (i + 1)) out w x
-      → Finish s m (maskAfter (grownOf s v)) (take i (valuesAfter (grownOf s v) (m .values)) ++ (w ∷ [])) out (after (valuesFrom k (i + 1) x) lineOver)
+      → Finish s m (maskAfter (grownOf s v)) (take i (valuesAfter (grownOf s v) (m .values)) ++ (w ∷ [])) out (after (valuesFrom p k (i + 1) x) lineOver)
   value-next k i out a f ih m s v e h plan z w x y =
       let u = valuesAfter (grownOf s v) (m .values) in
       let mask = maskAfter (grownOf s v) in
@@ -206,27 +199,27 @@ module _ (p : List ℕ) where
       let stored : set u i w ≡ valuesAfter (grownOf t w) u = values-new (grownOf t w) u i some (omega arith) in
       let l = z .long in
       let b : take (i + 1) (valuesAfter (grownOf t w) u) ≡ take i u ++ (w ∷ []) = ap (take (i + 1)) (sym stored) ∙ ap (λ (j : ℕ). take j (set u i w)) (add-one i) ∙ take-suc-set u i w (omega arith) in
-      same-finish s m v mask (i + 1) mask u (take i u ++ (w ∷ [])) out (after (valuesFrom k (i + 1) x) lineOver)
-      (subst (λ (c : ℕ). Finish t n c (take i u ++ (w ∷ [])) out (after (valuesFrom k (i + 1) x) lineOver)) (sym (mask-old (grownOf t w) some))
-      (subst (λ (c : List ℕ). Finish t n (maskAfter (grownOf t w)) c out (after (valuesFrom k (i + 1) x) lineOver)) b
+      same-finish s m v mask (i + 1) mask u (take i u ++ (w ∷ [])) out (after (valuesFrom p k (i + 1) x) lineOver)
+      (subst (λ (c : ℕ). Finish t n c (take i u ++ (w ∷ [])) out (after (valuesFrom p k (i + 1) x) lineOver)) (sym (mask-old (grownOf t w) some))
+      (subst (λ (c : List ℕ). Finish t n (maskAfter (grownOf t w)) c out (after (valuesFrom p k (i + 1) x) lineOver)) b
       (ih n t w x refl h plan (sym (input-first p (portsOf p) (i + 1) refl) ∙ ap (λ (j : ℕ). inputFrom p j (i + 1)) (let j : portsOf p - (i + 1) ≡ k = omega arith in j)) (subst Slots stored (kept-slots u i w f z)) y)))
 
   number-next : (k i : ℕ) (out : List ℕ) → i + suc k ≡ portsOf p → portAt p i < 256 → Goes k (i + 1) out → (m : Machine) (s : State) (v : ℕ) → s .stage ≡ Line → 0 < s .left → take (s .plan) (m .plan) ≡ p → Slots (valuesAfter (grownOf s v) (m .values))
       → (y : Got ℕ) → Numbered (machine (m .state) (m .actor) (m .bindings) (m .plan) (valuesAfter (grownOf s v) (m .values)) (m .outputs) (m .memory) []) (portOf (grownOf s v) (maskAfter (grownOf s v)) (i + 1)) out y
-      → Finish s m (maskAfter (grownOf s v)) (take i (valuesAfter (grownOf s v) (m .values))) out (after (after y (λ v x. after (valuesFrom k (i + 1) x) (λ l y. got (v ∷ l) y))) lineOver)
+      → Finish s m (maskAfter (grownOf s v)) (take i (valuesAfter (grownOf s v) (m .values))) out (after (after y (λ v x. after (valuesFrom p k (i + 1) x) (λ l y. got (v ∷ l) y))) lineOver)
   unfolding Finish Numbered after
   number-next k i out a f ih m s v e h plan z (lost r) x = x
   number-next k i out a f ih m s v e h plan z (got w r) x =
-      one-more s m (maskAfter (grownOf s v)) w (take i (valuesAfter (grownOf s v) (m .values))) out (valuesFrom k (i + 1) r) (value-next k i out a f ih m s v e h plan z w r x)
+      one-more s m (maskAfter (grownOf s v)) w (take i (valuesAfter (grownOf s v) (m .values))) out (valuesFrom p k (i + 1) r) (value-next k i out a f ih m s v e h plan z w r x)
 
   blank-then : (k i : ℕ) (out : List ℕ) → i + suc k ≡ portsOf p → portAt p i < 256 → Goes k (i + 1) out → (m : Machine) (s : State) (v : ℕ) (r : List ℕ) → s .stage ≡ Line → 0 < s .left → take (s .plan) (m .plan) ≡ p → nextInput p (s .port) ≡ i
       → Slots (valuesAfter (grownOf s v) (m .values)) → Ended m s out v r
-      → Finish s m (maskAfter (grownOf s v)) (take i (valuesAfter (grownOf s v) (m .values))) out (after (byte 32 r (λ r. after (numberUpTo 18_446_744_073_709_551_615 r) (λ v x. after (valuesFrom k (i + 1) x) (λ l y. got (v ∷ l) y)))) lineOver)
+      → Finish s m (maskAfter (grownOf s v)) (take i (valuesAfter (grownOf s v) (m .values))) out (after (byte 32 r (λ r. after (numberUpTo 18_446_744_073_709_551_615 r) (λ v x. after (valuesFrom p k (i + 1) x) (λ l y. got (v ∷ l) y)))) lineOver)
   unfolding Finish byte after
   blank-then k i out a f ih m s v [] e h plan q z x = line-cut (stated m (grownOf s v)) out e (x .rest)
   blank-then k i out a f ih m s v (c ∷ r) e h plan q z x = go (eqb 32 c) refl
     where
-      go : (t : Bool) → eqb 32 c ≡ t → Finish s m (maskAfter (grownOf s v)) (take i (valuesAfter (grownOf s v) (m .values))) out (after (elim t as (λ (y : Bool). Got (List ℕ)) [ true ↦ after (numberUpTo 18_446_744_073_709_551_615 r) (λ v x. after (valuesFrom k (i + 1) x) (λ l y. got (v ∷ l) y)) | false ↦ lost (c ∷ r) ]) lineOver)
+      go : (t : Bool) → eqb 32 c ≡ t → Finish s m (maskAfter (grownOf s v)) (take i (valuesAfter (grownOf s v) (m .values))) out (after (elim t as (λ (y : Bool). Got (List ℕ)) [ true ↦ after (numberUpTo 18_446_744_073_709_551_615 r) (λ v x. after (valuesFrom p k (i + 1) x) (λ l y. got (v ∷ l) y)) | false ↦ lost (c ∷ r) ]) lineOver)
       go false g = unblanked m s v e h plan i c r out q (omega arith) (λ y. eqb-false 32 c g (sym y)) x
       go true g =
           number-next k i out a f ih m s v e h plan z (numberUpTo 18_446_744_073_709_551_615 r)
@@ -253,9 +246,6 @@ module _ (p : List ℕ) where
 
   -- ---- a whole line, by the plan
 
-  unfoldable pub planTurn : List ℕ → Got CycleRead
-  planTurn bs = after (numberUpTo 4_294_967_295 bs) (λ v r. after (valuesFrom (portsOf p) 0 r) (λ l x. byte 10 x (λ y. got (record { mask = v; values = l }) y)))
-
   -- what is written where a line is read so: the cycle is run with its mask and its values
   unfoldable pub Turns : State → Machine → List ℕ → Got CycleRead → Type 0
   Turns s m out (lost y) = out ≡ isBad
@@ -275,16 +265,16 @@ module _ (p : List ℕ) where
     mask-is : (v : ℕ) → v ≤ mostOf (s .port) → maskAfter (grownOf s v) ≡ v
     mask-is v k = sym (mask-new (grownOf s v) first) ∙ (let a = most-mask (s .port) first in omega arith)
 
-    masked : (y : Got ℕ) → Numbered m s out y → Turns s m out (after y (λ v r. after (valuesFrom (portsOf p) 0 r) (λ l x. byte 10 x (λ y. got (record { mask = v; values = l }) y))))
+    masked : (y : Got ℕ) → Numbered m s out y → Turns s m out (after y (λ v r. after (valuesFrom p (portsOf p) 0 r) (λ l x. byte 10 x (λ y. got (record { mask = v; values = l }) y))))
     unfolding Turns Numbered after
     masked (lost r) x = x
     masked (got v r) x =
-        with-mask s m v out (valuesFrom (portsOf p) 0 r)
-        (subst (λ (k : ℕ). Finish s m k [] out (after (valuesFrom (portsOf p) 0 r) lineOver)) (mask-is v (x .small))
+        with-mask s m v out (valuesFrom p (portsOf p) 0 r)
+        (subst (λ (k : ℕ). Finish s m k [] out (after (valuesFrom p (portsOf p) 0 r) lineOver)) (mask-is v (x .small))
         (values-run (portsOf p) 0 out (omega arith) m s v r e h plan
         (ap (nextInput p) first ∙ sym (input-first p (portsOf p) 0 refl) ∙ ap (λ (k : ℕ). inputFrom p k 0) (let k : portsOf p - 0 ≡ portsOf p = omega arith in k))
         (subst Slots (values-old (grownOf s v) (m .values) first) z) x))
 
-    pub turn-run : (bs : List ℕ) → s .begun ≡ false → s .number ≡ 0 → From (stated m s) bs out → Turns s m out (planTurn bs)
+    pub turn-run : (bs : List ℕ) → s .begun ≡ false → s .number ≡ 0 → From (stated m s) bs out → Turns s m out (planTurn p bs)
     unfolding planTurn
     turn-run bs f g x = masked (numberUpTo 4_294_967_295 bs) (subst (λ (k : ℕ). Numbered m s out (numberUpTo k bs)) (sym (most-mask (s .port) first)) (line-number m s out bs e h f g x))

@@ -10,7 +10,8 @@ use Rattle.tipi.specs.Told.{tableAfter}
 use Rattle.figures.specs.declared.Stage.{Stage}
 use Rattle.figures.specs.declared.Stage.the-variants.{ActorCount, Actor, BindingsCount, Bindings, CycleCount, Line, Through, Wrong, Stopped}
 use Rattle.figures.specs.declared.State.{State}
-use Rattle.tipirun.specs.Machine.{Machine, machine, stated, movedAt, movedOf, passedAt, passedOf, whole, atBindings, planPassed, passedBy, Judges, Stepped, unwritten, preceded, Runs, stays, goes, endedAt, endedOf}
+use Rattle.input_bytes.specs.Bytes.{Machine, machine, stated, movedAt, movedOf, endedAt, endedOf}
+use Rattle.tipirun.specs.Machine.{passedAt, passedOf, whole, atBindings, planPassed, passedBy, Judges, Stepped, unwritten, preceded, Runs, stays, goes}
 
 -- ---- all that is written from a machine on
 

@@ -23,12 +23,16 @@ use Rattle.figures.specs.declared.Stage.{Stage}
 use Rattle.figures.specs.declared.Stage.the-variants.{ActorCount, Actor, BindingsCount, Bindings, CycleCount, Line, Through, Wrong, Stopped}
 use Rattle.figures.specs.declared.State.{State}
 use Rattle.figures.specs.States.{startOf}
-use Rattle.tipirun.specs.Reading.{plannedOf, actorByte, bindingsByte, judgedOf}
-use Rattle.tipirun.specs.Machine.{Machine, machine, stated, movedAt, passedOf, passedBy, planPassed, whole, unwritten, Runs, started, endedOf, Prints, prints}
-use Rattle.tipirun.proofs.Stages.{over-actor, over-bindings, over-plan, same-plan, whole-at, ended-refused}
+use Rattle.tipirun.specs.Reading.{plannedOf, judgedOf}
+use Rattle.input_bytes.specs.Texts.{actorByte, bindingsByte}
+use Rattle.input_bytes.specs.Bytes.{Machine, machine, stated, movedAt, endedOf}
+use Rattle.tipirun.specs.Machine.{passedOf, passedBy, planPassed, whole, unwritten, Runs, started, Prints, prints}
+use Rattle.tipirun.proofs.Stages.{over-actor, over-bindings, over-plan, same-plan, whole-at}
+use Rattle.input_bytes.proofs.Endings.{ended-refused}
 use Rattle.tipirun.proofs.Onward.{From, from, closed, stopped-closed}
 use Rattle.tipirun.proofs.CountLines.{Enters, actor-count, bindings-count}
-use Rattle.tipirun.proofs.TextRuns.{Kept, kept-none, actor-text, bindings-text, Whole, Texted, restLength, counted-length, counted-run}
+use Rattle.tipirun.proofs.TextRuns.{Kept, kept-none, actor-text, bindings-text, Whole, Texted, counted-run}
+use Rattle.input_bytes.proofs.Numbers.{restLength, counted-length}
 
 -- ---- a text past its limit is refused, however much of it is kept
 

@@ -15,10 +15,12 @@ use Rattle.plan_of.specs.PlanOf.{planOf}
 use Rattle.tipi.proofs.Theorems.{reads-once}
 use Rattle.figures.specs.declared.Stage.the-variants.{Line}
 use Rattle.figures.specs.States.{startOf}
-use Rattle.tipirun.specs.Machine.{Machine, stated, room, Prints}
+use Rattle.input_bytes.specs.Bytes.{Machine, stated}
+use Rattle.tipirun.specs.Machine.{room, Prints}
 use Rattle.tipirun.specs.Statement.{HasRoom}
 use Rattle.tipirun.proofs.Onward.{From}
-use Rattle.tipirun.proofs.CountLines.{Enters, Counted, lineEnd, cycle-count, count-run}
+use Rattle.tipirun.proofs.CountLines.{Enters, Counted, cycle-count, count-run}
+use Rattle.input_bytes.proofs.Numbers.{lineEnd}
 use Rattle.tipirun.proofs.Opening.{Ready, Opens, refuses, no-room, runs-on, Opening, bad, texts, opening}
 
 pub data Shown (input out : List ℕ) : Type 0 where

@@ -1,39 +1,23 @@
 -- What the stages of a run come to, case by case. Assumes nothing.
-use mathlib.Core.Path.{_≡_, refl, sym, ap, ap₂, _∙_, subst}
+use mathlib.Core.Path.{_≡_, sym, ap, _∙_, subst}
 use mathlib.Core.Bool.{Bool, true, false, false≢true}
-use mathlib.Core.List.{List, [], _∷_, _++_}
-use Prim.Native.Nat.{ℕ, zero, suc, _+_, _-_, _*_, _≤_, _<_, min}
-use native.Mathlib.Omega.{arith}
-use borrow.Author.Tests.{lt-ltb, le-ltb, eq-eqb, ne-eqb, leb-true, leb-false}
-use lib.Dec.{eqb, ltb, leb}
+use mathlib.Core.List.{List}
+use Prim.Native.Nat.{ℕ, _-_, _≤_, _<_, min}
+use borrow.Author.Tests.{lt-ltb, le-ltb}
 use lib.ListN.{length, take}
-use lib.Seq.{take-all}
-use Rattle.language.specs.Worked.{line, isBad}
 use Rattle.language.specs.Reading.{Answer, refused, Reads}
 use Rattle.language.specs.declared.Text.{Text}
 use Rattle.language.specs.declared.Text.the-variants.{Actor as InActor}
 use Rattle.figures.specs.declared.Stage.{Stage}
-use Rattle.figures.specs.declared.Stage.the-variants.{ActorCount, Actor, BindingsCount, Bindings, CycleCount, Line, Through, Wrong, Stopped}
+use Rattle.figures.specs.declared.Stage.the-variants.{Actor, BindingsCount, Bindings, Line, Through, Stopped}
 use Rattle.figures.specs.declared.State.{State}
 use Rattle.figures.specs.States.{startOf}
-use Rattle.tipirun.specs.Reading.{countByte, keptOf, actorByte, bindingsByte, plannedOf, judgedOf, Judged}
+use Rattle.tipirun.specs.Reading.{plannedOf, judgedOf, Judged}
 use Rattle.tipi.specs.Told.{answerOf, tableAfter, Read}
 use Rattle.plan_answer.specs.declared.Answer.{Answer as Told}
 use Rattle.plan_answer.specs.declared.Answer.the-variants.{Plan, Refused}
-use Rattle.tipirun.specs.Lines.{cellsOf}
-use Rattle.tipirun.specs.Machine.{Machine, passedAt, passedOf, whole, atBindings, planPassed, Judges, StagePassed, endedAt, endedOf}
-
--- ---- a byte of a text
-
-pub actor-as : (s : State) (n k l : ℕ) → k ≡ keptOf (s .actor) n → l ≡ s .left - 1
-    → record { stage = Actor; number = 0; begun = false; left = l; port = 0; mask = s .mask; actor = k; bindings = s .bindings; plan = s .plan; at = s .at } ≡ actorByte s n
-unfolding actorByte
-actor-as s n k l e f = ap₂ (λ (a b : ℕ). record { stage = Actor; number = 0; begun = false; left = b; port = 0; mask = s .mask; actor = a; bindings = s .bindings; plan = s .plan; at = s .at }) e f
-
-pub bindings-as : (s : State) (n k l : ℕ) → k ≡ keptOf (s .bindings) n → l ≡ s .left - 1
-    → record { stage = Bindings; number = 0; begun = false; left = l; port = 0; mask = s .mask; actor = s .actor; bindings = k; plan = s .plan; at = s .at } ≡ bindingsByte s n
-unfolding bindingsByte
-bindings-as s n k l e f = ap₂ (λ (a b : ℕ). record { stage = Bindings; number = 0; begun = false; left = b; port = 0; mask = s .mask; actor = s .actor; bindings = a; plan = s .plan; at = s .at }) e f
+use Rattle.tipirun.specs.Machine.{passedAt, passedOf, whole, atBindings, planPassed, Judges, StagePassed}
+use Rattle.input_bytes.proofs.Endings.{take-least}
 
 -- ---- a stage that is over
 
@@ -108,14 +92,6 @@ over-read s r a b p p' h e j =
       table = j .table ∙ over-plan (j .what) s p h e;
     }
 
--- the part of a table that a number says, or all of it
-pub take-least : (k n : ℕ) (l : List ℕ) → n ≡ min k (length l) → take n l ≡ take k l
-take-least k n l e = go (leb k (length l)) refl
-  where
-    go : (x : Bool) → leb k (length l) ≡ x → take n l ≡ take k l
-    go true q = let h = leb-true k (length l) q in let a : n ≡ k = omega arith in ap (λ (i : ℕ). take i l) a
-    go false q = let h = leb-false k (length l) q in take-all n l (omega arith) ∙ sym (take-all k l (omega arith))
-
 -- what the two texts are told as
 pub told : (a b p p' : List ℕ) (s r : State) (y : Told) (k m : ℕ) → k ≡ min (s .actor) (length a) → m ≡ min (s .bindings) (length b) → Read (take k a) (take m b) y p p' → r ≡ judgedOf y s
     → Judged (take (s .actor) a) (take (s .bindings) b) s p r p'
@@ -135,16 +111,3 @@ pub told-refused : (s r : State) (y : Told) (n p : ℕ) (t : Text) → y ≡ Ref
 unfolding judgedOf
 told-refused s r y n p t e f = f ∙ ap (λ (z : Told). judgedOf z s) (sym e)
 
--- ---- the end
-
-pub ended-through : (m : Machine) (n c : ℕ) → m .state .stage ≡ Through → n ≡ min (m .state .plan) (length (m .plan)) → c ≡ cellsOf (take n (m .plan)) → line (take c (m .memory)) ≡ endedOf m
-unfolding endedOf
-ended-through m n c e f g = ap (λ (k : ℕ). line (take k (m .memory))) (g ∙ ap cellsOf (take-least (m .state .plan) n (m .plan) f)) ∙ ap (λ (y : Stage). endedAt y m) (sym e)
-
-pub ended-refused : (m : Machine) (n p : ℕ) → m .state .stage ≡ Stopped n p → line (n ∷ p ∷ []) ≡ endedOf m
-unfolding endedOf
-ended-refused m n p e = ap (λ (y : Stage). endedAt y m) (sym e)
-
-pub ended-bad : (m : Machine) (g : Stage) → m .state .stage ≡ g → endedAt g m ≡ isBad → isBad ≡ endedOf m
-unfolding endedOf
-ended-bad m g e f = sym f ∙ ap (λ (y : Stage). endedAt y m) (sym e)

@@ -1,28 +1,30 @@
 -- A text after its count, as document 01 has it and as the machine meets it: byte by byte, as far as its table goes. Assumes nothing.
 use mathlib.Core.Path.{_≡_, refl, sym, ap, ap₂, _∙_, subst}
-use mathlib.Core.Bool.{Bool, true, false, _&&_}
+use mathlib.Core.Bool.{Bool, true, false}
 use mathlib.Core.List.{List, [], _∷_, _++_, append-assoc, append-nil}
-use Prim.Native.Nat.{ℕ, zero, suc, _+_, _-_, _*_, _^_, _≤_, _<_, min}
+use Prim.Native.Nat.{ℕ, zero, suc, _+_, _-_, _^_, _≤_, _<_, min}
 use native.Mathlib.Omega.{arith}
 use native.Mathlib.Numerals.{add-one}
-use borrow.Author.Tests.{lt-ltb, le-ltb, ltb-true, ltb-false, leb-true, leb-false}
+use borrow.Author.Tests.{ltb-true, ltb-false, leb-true, leb-false}
 use lib.Dec.{eqb, leb, ltb}
-use lib.ListN.{length, take, drop, set, length-append, length-set, length-drop}
+use lib.ListN.{length, take, drop, set, length-append, length-set}
 use lib.Seq.{take-all, take-append-le, take-suc-set, set-out}
-use Rattle.language.specs.Bindings.{Got, got, lost, after, byte, digitsFrom, numberUpTo}
-use Rattle.language.specs.Words.{digit}
+use Rattle.language.specs.Bindings.{Got, got, lost, after, byte}
 use Rattle.language.specs.Worked.{isBad, anyNumber, counted}
 use Rattle.language.specs.Reading.{Answer}
 use Rattle.figures.specs.declared.Stage.{Stage}
-use Rattle.figures.specs.declared.Stage.the-variants.{ActorCount, Actor, BindingsCount, Bindings}
+use Rattle.figures.specs.declared.Stage.the-variants.{Actor, Bindings}
 use Rattle.figures.specs.declared.State.{State}
 use Rattle.figures.specs.States.{startOf}
-use Rattle.tipirun.specs.Reading.{keptOf, actorByte, bindingsByte}
-use Rattle.tipirun.specs.Machine.{Machine, machine, stated, movedAt, movedOf, passedOf, planPassed, passedBy, Judges, unwritten, endedAt, endedOf}
-use Rattle.tipirun.proofs.Counting.{kept-in, kept-out}
-use Rattle.tipirun.proofs.Stages.{left-on, left-plan, ended-bad}
+use Rattle.input_bytes.specs.Texts.{keptOf, actorByte, bindingsByte}
+use Rattle.input_bytes.specs.Bytes.{Machine, machine, stated, movedAt, movedOf, endedAt}
+use Rattle.tipirun.specs.Machine.{passedBy, Judges, unwritten}
+use Rattle.input_bytes.proofs.Counting.{kept-in, kept-out}
+use Rattle.tipirun.proofs.Stages.{left-on, left-plan}
+use Rattle.input_bytes.proofs.Endings.{ended-bad}
 use Rattle.tipirun.proofs.Onward.{From, more, none}
-use Rattle.tipirun.proofs.CountLines.{Kind, Enters, Counted, lineEnd, count-run}
+use Rattle.tipirun.proofs.CountLines.{Kind, Enters, Counted, count-run}
+use Rattle.input_bytes.proofs.Numbers.{lineEnd, restLength, number-length}
 
 -- ---- a text as far as its table goes
 
@@ -62,50 +64,6 @@ kept-next table k limit b text x = go (ltb k limit) refl
           count = sym e ∙ (omega arith);
           part = ap₂ take (sym e) (set-out table k b (omega arith)) ∙ x .part ∙ sym (take-append-le limit text (b ∷ []) (omega arith));
         }
-
--- ---- what is left after a number
-
-unfoldable pub restLength : {T : Type 0} → Got T → ℕ
-restLength (got n r) = length r
-restLength (lost r) = length r
-
-digits-length : (bs : List ℕ) (most n : ℕ) → restLength (digitsFrom most n bs) ≤ length bs
-unfolding digitsFrom restLength
-digits-length [] most n = omega arith
-digits-length (b ∷ bs) most n = go (digit b && ltb 0 n && leb (n * 10 + (b - 48)) most) (digits-length bs most (n * 10 + (b - 48)))
-  where
-    go : (y : Bool) → restLength (digitsFrom most (n * 10 + (b - 48)) bs) ≤ length bs → restLength {T = ℕ} (elim y [ true ↦ digitsFrom most (n * 10 + (b - 48)) bs | false ↦ got n (b ∷ bs) ]) ≤ suc (length bs)
-    go true h = omega arith
-    go false h = omega arith
-
-pub number-length : (bs : List ℕ) (most : ℕ) → restLength (numberUpTo most bs) ≤ length bs
-unfolding numberUpTo restLength
-number-length [] most = omega arith
-number-length (b ∷ bs) most = go (digit b) (digits-length bs most (b - 48))
-  where
-    go : (y : Bool) → restLength (digitsFrom most (b - 48) bs) ≤ length bs → restLength {T = ℕ} (elim y [ true ↦ digitsFrom most (b - 48) bs | false ↦ lost (b ∷ bs) ]) ≤ suc (length bs)
-    go true h = omega arith
-    go false h = omega arith
-
-part-length : (z : Bool) (n : ℕ) (r : List ℕ) → restLength {T = List ℕ} (elim z [ true ↦ got (take n r) (drop n r) | false ↦ lost r ]) ≤ length r
-unfolding restLength
-part-length true n r = let a = length-drop n r in omega arith
-part-length false n r = omega arith
-
-here-length : (z : Bool) (n b : ℕ) (r : List ℕ) → restLength {T = List ℕ} (elim z [ true ↦ elim (leb n (length r)) [ true ↦ got (take n r) (drop n r) | false ↦ lost r ] | false ↦ lost (b ∷ r) ]) ≤ suc (length r)
-unfolding restLength
-here-length true n b r = let p = part-length (leb n (length r)) n r in omega arith
-here-length false n b r = omega arith
-
-after-length : (y : Got ℕ) → restLength {T = List ℕ} (after y (λ n r. byte 10 r (λ x. elim (leb n (length x)) [ true ↦ got (take n x) (drop n x) | false ↦ lost x ]))) ≤ restLength y
-unfolding restLength after byte
-after-length (lost r) = omega arith
-after-length (got n []) = omega arith
-after-length (got n (b ∷ r)) = here-length (eqb 10 b) n b r
-
-pub counted-length : (bs : List ℕ) → restLength (counted bs) ≤ length bs
-unfolding counted anyNumber
-counted-length bs = let a = number-length bs (10 ^ length bs) in let b = after-length (anyNumber bs) in omega arith
 
 -- ---- a stage at which the bytes of a text are kept
 

@@ -22,17 +22,18 @@ use Rattle.tipi.specs.Told.{tableAfter}
 use Rattle.tipi.proofs.Theorems.{reads-once}
 use Rattle.figures.specs.declared.Stage.the-variants.{Line}
 use Rattle.figures.specs.States.{startOf}
-use Rattle.tipirun.specs.Lines.{cellsOf}
+use Rattle.input_bytes.specs.Lines.{cellsOf}
 use Rattle.cycle_line.specs.Shown.{portsOf}
-use Rattle.tipirun.specs.Machine.{Machine, Prints}
+use Rattle.input_bytes.specs.Bytes.{Machine}
+use Rattle.tipirun.specs.Machine.{Prints}
 use Rattle.tipirun.specs.Statement.{HasRoom, Worked, as-01, row-13}
-use Rattle.tipirun.proofs.CountLines.{lineEnd}
+use Rattle.input_bytes.proofs.Numbers.{lineEnd}
 use Rattle.tipirun.proofs.Opening.{Ready}
 use Rattle.tipirun.proofs.LineValues.{Slots}
 use Rattle.tipirun.proofs.CycleRuns.{Agrees, AtLine, cycles-run}
-use Rattle.tipirun.proofs.Signatures.{turns-agree, lines-agree}
+use Rattle.input_bytes.proofs.Signatures.{turns-agree, lines-agree}
 use Rattle.tipirun.proofs.Laying.{reads-laid}
-use Rattle.tipirun.proofs.Spent.{leaves-got, same-cycles, input-leaves, count-leaves}
+use Rattle.input_bytes.proofs.Spent.{leaves-got, same-cycles, input-leaves, count-leaves}
 use Rattle.tipirun.proofs.Decided.{prints-some}
 use Rattle.tipirun.proofs.Shown.{Shown, as-told, thirteen, cycles-come, this-one, shown}
 

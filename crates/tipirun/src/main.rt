@@ -2,17 +2,15 @@
 // What comes in: bytes, a few at a time. What goes out: a line for each cycle and the cells; or a
 // refusal's number and place; or `bad`. What each byte does is proved; `main` only moves bytes.
 mod steps;
-mod stops;
 mod texts;
-mod turns;
 
 use figures::begin;
 use figures::emptied;
 use figures::goes_on;
+use input_bytes::ended;
 use libc::STDIN_FILENO;
 use libc::STDOUT_FILENO;
 use steps::feed;
-use stops::ended;
 
 // One byte more than a text may have: so that one over its limit is told from one at it.
 const ACTOR: usize = language::Actor::BYTES as usize + 1;

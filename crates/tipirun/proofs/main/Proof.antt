@@ -8,8 +8,9 @@ use lib.ListN.{length, take, length-take}
 use lib.Seq.{length-take-le}
 use Rattle.figures.specs.declared.State.{State}
 use Rattle.figures.specs.Written.{Wrote}
-use Rattle.tipirun.specs.Lines.{Roomy}
-use Rattle.tipirun.specs.Machine.{Machine, Feeds}
+use Rattle.input_bytes.specs.Lines.{Roomy}
+use Rattle.input_bytes.specs.Bytes.{Machine}
+use Rattle.tipirun.specs.Machine.{Feeds}
 use Rattle.tipirun.proofs.main.Statement.{statement}
 use Rattle.tipirun.proofs.main.Tie as tie
 

@@ -5,8 +5,8 @@ use mathlib.Core.List.{List, []}
 use Prim.Native.Nat.{ℕ, _+_, _-_, _*_, _≤_, _<_}
 use native.Mathlib.Omega.{arith}
 use lib.ListN.{length}
-use Rattle.tipirun.specs.Lines.{Roomy}
-use Rattle.tipirun.specs.Machine.{machine}
+use Rattle.input_bytes.specs.Lines.{Roomy}
+use Rattle.input_bytes.specs.Bytes.{machine}
 use Rattle.tipirun.proofs.Bytewise.{Running, starts, more, all-fed}
 use Rattle.tipirun.proofs.steps.feed.Statement.{statement}
 use Rattle.tipirun.proofs.steps.feed.Tie as tie
