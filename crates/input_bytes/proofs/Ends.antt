@@ -15,15 +15,13 @@ use Rattle.figures.specs.declared.Stage.the-variants.{Line}
 use Rattle.figures.specs.declared.State.{State}
 use Rattle.figures.specs.States.{wrongOf, portOf, lineTakes, longerOf}
 use Rattle.figures.specs.Written.{Wrote}
-use Rattle.input_bytes.specs.Lines.{cellsOf, nextInput, Lined, Left, maskAfter, valuesAfter, doneOf, outputsAfter, memoryAfter, turnedOf, unturned, numberEnds, lineByte}
+use Rattle.input_bytes.specs.Lines.{cellsOf, nextInput, Lined, Left, maskAfter, valuesAfter, doneOf, outputsAfter, memoryAfter, turnedOf, standing, numberEnds, lineByte}
 use Rattle.cycle_line.specs.Shown.{portsOf, shownOf}
-
--- ---- digits of a line
 
 -- ---- what is left where nothing is run
 
-pub left-unturned : (x : Lined) (r : State) (at : ℕ) (v o m out : List ℕ) → unturned r v o m ≡ x → r .at ≡ at → Left x out at r v o m out
-left-unturned x r at v o m out e h =
+pub left-standing : (x : Lined) (r : State) (at : ℕ) (v o m out : List ℕ) → standing r v o m ≡ x → r .at ≡ at → Left x out at (standing r v o m) out
+left-standing x r at v o m out e h =
     record {
       stands = ap (λ (y : Lined). y .state) e;
       held = ap (λ (y : Lined). y .values) e;
@@ -34,8 +32,8 @@ left-unturned x r at v o m out e h =
       short = (let l : 0 ≡ length (x .wrote) = ap (λ (y : Lined). length (y .wrote)) e in omega arith);
     }
 
-pub left-as : {x y : Lined} {old v o m out : List ℕ} {at : ℕ} {r : State} → Left x old at r v o m out → x ≡ y → Left y old at r v o m out
-left-as {x} {y} {old} {v} {o} {m} {out} {at} {r} l e = subst (λ (z : Lined). Left z old at r v o m out) e l
+pub left-as : {x y after : Lined} {old out : List ℕ} {at : ℕ} → Left x old at after out → x ≡ y → Left y old at after out
+left-as {x} {y} {after} {old} {out} {at} l e = subst (λ (z : Lined). Left z old at after out) e l
 
 -- ---- the cycle
 
@@ -59,9 +57,7 @@ module _ (s : State) (mask : ℕ) (p values outputs memory : List ℕ) where
         ∙ ap (λ (l : List ℕ). shownOf p (doneOf p mask values outputs memory .answer) (doneOf p mask values outputs memory .count) l) slots-are
 
     turned-left : (out new : List ℕ) (next left : ℕ) → Wrote out (s .at) (shownOf p answer count (os ++ drop n outputs)) 378 next new → left ≡ s .left - 1
-        → Left (turnedOf s mask p values outputs memory) out (s .at)
-        (record { stage = Line; number = 0; begun = false; left = left; port = 0; mask = mask; actor = s .actor; bindings = s .bindings; plan = s .plan; at = next })
-        values (os ++ drop n outputs) (ms ++ drop m memory) new
+        → Left (turnedOf s mask p values outputs memory) out (s .at) (standing (record { stage = Line; number = 0; begun = false; left = left; port = 0; mask = mask; actor = s .actor; bindings = s .bindings; plan = s .plan; at = next }) values (os ++ drop n outputs) (ms ++ drop m memory)) new
     unfolding turnedOf
     turned-left out new next left w e =
         let q = w .place ∙ ap (λ (l : List ℕ). s .at + length l) shown-is in
@@ -78,9 +74,7 @@ module _ (s : State) (mask : ℕ) (p values outputs memory : List ℕ) where
   pub turned-as : (n m answer count : ℕ) (os ms out new : List ℕ) (next left : ℕ) → n ≡ portsOf p → m ≡ cellsOf p
       → outcome answer count os ms ≡ cycleOf p mask (take n values) (take m memory) (take n outputs)
       → Wrote out (s .at) (shownOf p answer count (os ++ drop n outputs)) 378 next new → left ≡ s .left - 1
-      → Left (turnedOf s mask p values outputs memory) out (s .at)
-      (record { stage = Line; number = 0; begun = false; left = left; port = 0; mask = mask; actor = s .actor; bindings = s .bindings; plan = s .plan; at = next })
-      values (os ++ drop n outputs) (ms ++ drop m memory) new
+      → Left (turnedOf s mask p values outputs memory) out (s .at) (standing (record { stage = Line; number = 0; begun = false; left = left; port = 0; mask = mask; actor = s .actor; bindings = s .bindings; plan = s .plan; at = next }) values (os ++ drop n outputs) (ms ++ drop m memory)) new
   turned-as n m answer count os ms out new next left en em d w e =
       turned-left n m answer count os ms en em (done-is n m answer count os ms en em d) out new next left w e
 
@@ -93,15 +87,15 @@ module _ (s : State) (b : ℕ) (p v o m : List ℕ) (i n : ℕ) (ei : i ≡ next
   no-more : n ≤ i → ltb (nextInput p (s .port)) (portsOf p) ≡ false
   no-more h = ap₂ ltb (sym ei) (sym en) ∙ le-ltb i n h
 
-  pub blank-wrong : i < n → (b ≡ 32 → ⊥) → unturned (wrongOf s) v o m ≡ numberEnds s b p v o m
+  pub blank-wrong : i < n → (b ≡ 32 → ⊥) → standing (wrongOf s) v o m ≡ numberEnds s b p v o m
   unfolding numberEnds
   blank-wrong h q = sym (simp (numberEnds, more h, ne-eqb b 32 q))
 
-  pub blank-next : i < n → b ≡ 32 → unturned (portOf s (maskAfter s) (i + 1)) (valuesAfter s v) o m ≡ numberEnds s b p v o m
+  pub blank-next : i < n → b ≡ 32 → standing (portOf s (maskAfter s) (i + 1)) (valuesAfter s v) o m ≡ numberEnds s b p v o m
   unfolding numberEnds
-  blank-next h q = ap (λ (k : ℕ). unturned (portOf s (maskAfter s) (k + 1)) (valuesAfter s v) o m) ei ∙ sym (simp (numberEnds, more h, eq-eqb b 32 q))
+  blank-next h q = ap (λ (k : ℕ). standing (portOf s (maskAfter s) (k + 1)) (valuesAfter s v) o m) ei ∙ sym (simp (numberEnds, more h, eq-eqb b 32 q))
 
-  pub end-wrong : n ≤ i → (b ≡ 10 → ⊥) → unturned (wrongOf s) v o m ≡ numberEnds s b p v o m
+  pub end-wrong : n ≤ i → (b ≡ 10 → ⊥) → standing (wrongOf s) v o m ≡ numberEnds s b p v o m
   unfolding numberEnds
   end-wrong h q = sym (simp (numberEnds, no-more h, ne-eqb b 10 q))
 
@@ -110,29 +104,29 @@ module _ (s : State) (b : ℕ) (p v o m : List ℕ) (i n : ℕ) (ei : i ≡ next
   end-turn h q = sym (simp (numberEnds, no-more h, eq-eqb b 10 q))
 
   -- as the code has them: r is the state, k the mask and w the values that it keeps
-  pub left-blank-wrong : (r : State) (out : List ℕ) → i < n → (b ≡ 32 → ⊥) → r ≡ wrongOf s → Left (numberEnds s b p v o m) out (s .at) r v o m out
-  left-blank-wrong r out h q e = left-unturned (numberEnds s b p v o m) r (s .at) v o m out (ap (λ (t : State). unturned t v o m) e ∙ blank-wrong h q) (ap (λ (t : State). t .at) e)
+  pub left-blank-wrong : (r : State) (out : List ℕ) → i < n → (b ≡ 32 → ⊥) → r ≡ wrongOf s → Left (numberEnds s b p v o m) out (s .at) (standing r v o m) out
+  left-blank-wrong r out h q e = left-standing (numberEnds s b p v o m) r (s .at) v o m out (ap (λ (t : State). standing t v o m) e ∙ blank-wrong h q) (ap (λ (t : State). t .at) e)
 
-  pub left-end-wrong : (r : State) (out : List ℕ) → n ≤ i → (b ≡ 10 → ⊥) → r ≡ wrongOf s → Left (numberEnds s b p v o m) out (s .at) r v o m out
-  left-end-wrong r out h q e = left-unturned (numberEnds s b p v o m) r (s .at) v o m out (ap (λ (t : State). unturned t v o m) e ∙ end-wrong h q) (ap (λ (t : State). t .at) e)
+  pub left-end-wrong : (r : State) (out : List ℕ) → n ≤ i → (b ≡ 10 → ⊥) → r ≡ wrongOf s → Left (numberEnds s b p v o m) out (s .at) (standing r v o m) out
+  left-end-wrong r out h q e = left-standing (numberEnds s b p v o m) r (s .at) v o m out (ap (λ (t : State). standing t v o m) e ∙ end-wrong h q) (ap (λ (t : State). t .at) e)
 
-  pub left-blank : (r : State) (k : ℕ) (w out : List ℕ) → i < n → b ≡ 32 → r ≡ portOf s k (i + 1) → k ≡ maskAfter s → w ≡ valuesAfter s v → Left (numberEnds s b p v o m) out (s .at) r w o m out
+  pub left-blank : (r : State) (k : ℕ) (w out : List ℕ) → i < n → b ≡ 32 → r ≡ portOf s k (i + 1) → k ≡ maskAfter s → w ≡ valuesAfter s v → Left (numberEnds s b p v o m) out (s .at) (standing r w o m) out
   left-blank r k w out h q e f g =
-      left-unturned (numberEnds s b p v o m) r (s .at) w o m out
-      (ap₂ (λ (t : State) (l : List ℕ). unturned t l o m) (e ∙ ap (λ (j : ℕ). portOf s j (i + 1)) f) g ∙ blank-next h q)
+      left-standing (numberEnds s b p v o m) r (s .at) w o m out
+      (ap₂ (λ (t : State) (l : List ℕ). standing t l o m) (e ∙ ap (λ (j : ℕ). portOf s j (i + 1)) f) g ∙ blank-next h q)
       (ap (λ (t : State). t .at) e)
 
-  pub left-turn : (r : State) (k : ℕ) (w out new o' m' : List ℕ) → n ≤ i → b ≡ 10 → k ≡ maskAfter s → w ≡ valuesAfter s v → Left (turnedOf s k p w o m) out (s .at) r w o' m' new → Left (numberEnds s b p v o m) out (s .at) r w o' m' new
+  pub left-turn : (r : State) (k : ℕ) (w out new o' m' : List ℕ) → n ≤ i → b ≡ 10 → k ≡ maskAfter s → w ≡ valuesAfter s v → Left (turnedOf s k p w o m) out (s .at) (standing r w o' m') new → Left (numberEnds s b p v o m) out (s .at) (standing r w o' m') new
   left-turn r k w out new o' m' h q f g l = left-as l (ap₂ (λ (j : ℕ) (x : List ℕ). turnedOf s j p x o m) f g ∙ end-turn h q)
 
 -- ---- a byte of a line
 
 module _ (s : State) (b : ℕ) (plan v o m : List ℕ) where
-  pub line-takes : lineTakes s b ≡ true → unturned (longerOf s b) v o m ≡ lineByte s b plan v o m
+  pub line-takes : lineTakes s b ≡ true → standing (longerOf s b) v o m ≡ lineByte s b plan v o m
   unfolding lineByte
   line-takes e = sym (simp (lineByte, e))
 
-  pub line-unbegun : lineTakes s b ≡ false → s .begun ≡ false → unturned (wrongOf s) v o m ≡ lineByte s b plan v o m
+  pub line-unbegun : lineTakes s b ≡ false → s .begun ≡ false → standing (wrongOf s) v o m ≡ lineByte s b plan v o m
   unfolding lineByte
   line-unbegun e f = sym (simp (lineByte, e, f))
 
@@ -140,9 +134,9 @@ module _ (s : State) (b : ℕ) (plan v o m : List ℕ) where
   unfolding lineByte
   line-ends e f = sym (simp (lineByte, e, f))
 
-  pub left-takes : (r : State) (out : List ℕ) → lineTakes s b ≡ true → r ≡ longerOf s b → Left (lineByte s b plan v o m) out (s .at) r v o m out
+  pub left-takes : (r : State) (out : List ℕ) → lineTakes s b ≡ true → r ≡ longerOf s b → Left (lineByte s b plan v o m) out (s .at) (standing r v o m) out
   unfolding longerOf
-  left-takes r out e f = left-unturned (lineByte s b plan v o m) r (s .at) v o m out (ap (λ (t : State). unturned t v o m) f ∙ line-takes e) (ap (λ (t : State). t .at) f)
+  left-takes r out e f = left-standing (lineByte s b plan v o m) r (s .at) v o m out (ap (λ (t : State). standing t v o m) f ∙ line-takes e) (ap (λ (t : State). t .at) f)
 
-  pub left-unbegun : (r : State) (out : List ℕ) → lineTakes s b ≡ false → s .begun ≡ false → r ≡ wrongOf s → Left (lineByte s b plan v o m) out (s .at) r v o m out
-  left-unbegun r out e g f = left-unturned (lineByte s b plan v o m) r (s .at) v o m out (ap (λ (t : State). unturned t v o m) f ∙ line-unbegun e g) (ap (λ (t : State). t .at) f)
+  pub left-unbegun : (r : State) (out : List ℕ) → lineTakes s b ≡ false → s .begun ≡ false → r ≡ wrongOf s → Left (lineByte s b plan v o m) out (s .at) (standing r v o m) out
+  left-unbegun r out e g f = left-standing (lineByte s b plan v o m) r (s .at) v o m out (ap (λ (t : State). standing t v o m) f ∙ line-unbegun e g) (ap (λ (t : State). t .at) f)

@@ -47,11 +47,15 @@ movedAt (Stopped n p) m b = stated m (m .state)
 unfoldable pub movedOf : Machine → ℕ → Machine
 movedOf m b = movedAt (m .state .stage) m b
 
--- the tables as a function leaves them, and the bytes that wait to be written
-pub record TablesStand (x : Machine) (old : List ℕ) (at most : ℕ) (r : State) (actor bindings plan values outputs memory out : List ℕ) : Type 0 where
-  pub tables : machine r actor bindings plan values outputs memory (x .wrote) ≡ x
+-- with these bytes written
+abbrev pub writing : List ℕ → Machine → Machine
+writing w m = machine (m .state) (m .actor) (m .bindings) (m .plan) (m .values) (m .outputs) (m .memory) w
+
+-- `after` and the table of bytes are what a function leaves: the machine x, whose bytes wait to be written
+pub record TablesStand (x : Machine) (old : List ℕ) (at most : ℕ) (after : Machine) (out : List ℕ) : Type 0 where
+  pub tables : writing (x .wrote) after ≡ x
   pub bytes : out ≡ sets old at (x .wrote)
-  pub place : r .at ≡ at + length (x .wrote)
+  pub place : after .state .at ≡ at + length (x .wrote)
   pub short : length (x .wrote) ≤ most
 
 -- ---- the end: "input not in this form `bad`", "number and place on one line", "then all cells on one line"

@@ -36,14 +36,18 @@ pub record Lined : Type 0 where
   pub memory : List ℕ
   pub wrote : List ℕ
 
--- the tables as a function leaves them
-pub record Left (x : Lined) (old : List ℕ) (at : ℕ) (r : State) (values outputs memory out : List ℕ) : Type 0 where
-  pub stands : r ≡ x .state
-  pub held : values ≡ x .values
-  pub slots : outputs ≡ x .outputs
-  pub cells : memory ≡ x .memory
+-- with nothing written
+abbrev pub standing : State → List ℕ → List ℕ → List ℕ → Lined
+standing s values outputs memory = record { state = s; values = values; outputs = outputs; memory = memory; wrote = [] }
+
+-- `after` and the table of bytes are what a function leaves, by what a byte of a line leaves
+pub record Left (x : Lined) (old : List ℕ) (at : ℕ) (after : Lined) (out : List ℕ) : Type 0 where
+  pub stands : after .state ≡ x .state
+  pub held : after .values ≡ x .values
+  pub slots : after .outputs ≡ x .outputs
+  pub cells : after .memory ≡ x .memory
   pub bytes : out ≡ sets old at (x .wrote)
-  pub place : r .at ≡ at + length (x .wrote)
+  pub place : after .state .at ≡ at + length (x .wrote)
   pub short : length (x .wrote) ≤ lineBytes
 
 -- the tables that lines are read into have room
@@ -80,21 +84,17 @@ turnedOf s mask p values outputs memory =
     let w : List ℕ = shownOf p (o .answer) (o .count) (outputsAfter p o outputs) in
     record { state = turnedState s mask (length w); values = values; outputs = outputsAfter p o outputs; memory = memoryAfter p o memory; wrote = w }
 
--- nothing is run
-abbrev pub unturned : State → List ℕ → List ℕ → List ℕ → Lined
-unturned s values outputs memory = record { state = s; values = values; outputs = outputs; memory = memory; wrote = [] }
-
 -- a blank before the next input's value, a newline after the last
 unfoldable pub numberEnds : State → ℕ → List ℕ → List ℕ → List ℕ → List ℕ → Lined
 numberEnds s b p values outputs memory =
     elim (ltb (nextInput p (s .port)) (portsOf p)) [
       | true ↦ elim (eqb b 32) [
-        | true ↦ unturned (portOf s (maskAfter s) (nextInput p (s .port) + 1)) (valuesAfter s values) outputs memory
-        | false ↦ unturned (wrongOf s) values outputs memory
+        | true ↦ standing (portOf s (maskAfter s) (nextInput p (s .port) + 1)) (valuesAfter s values) outputs memory
+        | false ↦ standing (wrongOf s) values outputs memory
       ]
       | false ↦ elim (eqb b 10) [
         | true ↦ turnedOf s (maskAfter s) p (valuesAfter s values) outputs memory
-        | false ↦ unturned (wrongOf s) values outputs memory
+        | false ↦ standing (wrongOf s) values outputs memory
       ]
     ]
 
@@ -102,6 +102,6 @@ numberEnds s b p values outputs memory =
 unfoldable pub lineByte : State → ℕ → List ℕ → List ℕ → List ℕ → List ℕ → Lined
 lineByte s b plan values outputs memory =
     elim (lineTakes s b) [
-      | true ↦ unturned (longerOf s b) values outputs memory
-      | false ↦ elim (s .begun) [ true ↦ numberEnds s b (take (s .plan) plan) values outputs memory | false ↦ unturned (wrongOf s) values outputs memory ]
+      | true ↦ standing (longerOf s b) values outputs memory
+      | false ↦ elim (s .begun) [ true ↦ numberEnds s b (take (s .plan) plan) values outputs memory | false ↦ standing (wrongOf s) values outputs memory ]
     ]

@@ -5,6 +5,7 @@ ghost use mathlib.Core.List.{[]};
 ghost use Rattle.cycle_line.specs.Shown.{lineBytes};
 ghost use Rattle.input_bytes.specs.Lines.{Roomy};
 ghost use Rattle.input_bytes.specs.Bytes.{machine, movedOf, TablesStand};
+
 mod stops;
 mod texts;
 mod turns;
@@ -30,9 +31,10 @@ pub fn moved(
     out: &mut [u8],
 ) -> State
     requires { ⌜ Roomy (now values) (now outputs) (now memory) (now out) (s .at) ⌝ }
-    ensures { λ r. ⌜ TablesStand
-        (movedOf (machine s (now (actor .entry)) (now (bindings .entry)) (now (plan .entry)) (now (values .entry)) (now (outputs .entry)) (now (memory .entry)) []) b)
-        (now (out .entry)) (s .at) lineBytes r (now (actor .exit)) (now (bindings .exit)) (now (plan .entry)) (now (values .exit)) (now (outputs .exit)) (now (memory .exit)) (now (out .exit)) ⌝ }
+    ensures { λ r.
+        let before = machine s (now (actor .entry)) (now (bindings .entry)) (now (plan .entry)) (now (values .entry)) (now (outputs .entry)) (now (memory .entry)) [] in
+        let after = machine r (now (actor .exit)) (now (bindings .exit)) (now (plan .entry)) (now (values .exit)) (now (outputs .exit)) (now (memory .exit)) [] in
+        ⌜ TablesStand (movedOf before b) (now (out .entry)) (s .at) lineBytes after (now (out .exit)) ⌝ }
 {
     let stage = s.stage;
     match stage {

@@ -3,7 +3,7 @@ ghost use mathlib.Core.Path.{_≡_};
 ghost use Prim.Native.Nat.{_+_, _*_, _≤_};
 ghost use lib.ListN.{length};
 ghost use Rattle.language.specs.Limits.{limits};
-ghost use Rattle.input_bytes.specs.Lines.{cellsOf, nextInput, maskAfter, valuesAfter, turnedOf, numberEnds, lineByte, Left, Roomy};
+ghost use Rattle.input_bytes.specs.Lines.{cellsOf, nextInput, maskAfter, valuesAfter, turnedOf, standing, numberEnds, lineByte, Left, Roomy};
 use cycle_line::ports;
 use cycle_line::show;
 use figures::Stage;
@@ -56,8 +56,10 @@ fn turned(
     out: &mut [u8],
 ) -> State
     requires { ⌜ Roomy (now values) (now outputs) (now memory) (now out) (s .at) ⌝ }
-    ensures { λ r. ⌜ Left (turnedOf s mask (now (plan .entry)) (now (values .entry)) (now (outputs .entry)) (now (memory .entry)))
-        (now (out .entry)) (s .at) r (now (values .entry)) (now (outputs .exit)) (now (memory .exit)) (now (out .exit)) ⌝ }
+    ensures { λ r.
+        let made = turnedOf s mask (now (plan .entry)) (now (values .entry)) (now (outputs .entry)) (now (memory .entry)) in
+        let after = standing r (now (values .entry)) (now (outputs .exit)) (now (memory .exit)) in
+        ⌜ Left made (now (out .entry)) (s .at) after (now (out .exit)) ⌝ }
 {
     let n = place(ports(plan));
     let m = cells(plan);
@@ -108,8 +110,10 @@ fn number_ends(
     out: &mut [u8],
 ) -> State
     requires { ⌜ Roomy (now values) (now outputs) (now memory) (now out) (s .at) ⌝ }
-    ensures { λ r. ⌜ Left (numberEnds s b (now (plan .entry)) (now (values .entry)) (now (outputs .entry)) (now (memory .entry)))
-        (now (out .entry)) (s .at) r (now (values .exit)) (now (outputs .exit)) (now (memory .exit)) (now (out .exit)) ⌝ }
+    ensures { λ r.
+        let made = numberEnds s b (now (plan .entry)) (now (values .entry)) (now (outputs .entry)) (now (memory .entry)) in
+        let after = standing r (now (values .exit)) (now (outputs .exit)) (now (memory .exit)) in
+        ⌜ Left made (now (out .entry)) (s .at) after (now (out .exit)) ⌝ }
 {
     let i = next_input(plan, s.port);
     if i < ports(plan) {
@@ -137,8 +141,10 @@ pub fn line_byte(
     out: &mut [u8],
 ) -> State
     requires { ⌜ Roomy (now values) (now outputs) (now memory) (now out) (s .at) ⌝ }
-    ensures { λ r. ⌜ Left (lineByte s b (now (plan .entry)) (now (values .entry)) (now (outputs .entry)) (now (memory .entry)))
-        (now (out .entry)) (s .at) r (now (values .exit)) (now (outputs .exit)) (now (memory .exit)) (now (out .exit)) ⌝ }
+    ensures { λ r.
+        let made = lineByte s b (now (plan .entry)) (now (values .entry)) (now (outputs .entry)) (now (memory .entry)) in
+        let after = standing r (now (values .exit)) (now (outputs .exit)) (now (memory .exit)) in
+        ⌜ Left made (now (out .entry)) (s .at) after (now (out .exit)) ⌝ }
 {
     if takes_in_line(s, b) {
         return longer(s, b);

@@ -13,7 +13,7 @@ use Rattle.words.specs.declared.Place.the-variants.{Nowhere}
 use Rattle.tape.specs.Walk.{opAt, placeAt, valueAt}
 use Rattle.row07_limits.specs.declared.Room.{Room}
 use Rattle.part_lengths.specs.Parts.{Triple, before, heldIn, bothOf}
-use Rattle.row07_limits.specs.Walk.{sizeIn, sizePlaceIn, fullFor, badSize, lastLimit, otherLimit, nextRoom, itemFaults, roomAt, faultsAt}
+use Rattle.row07_limits.specs.Walk.{sizeIn, sizePlaceIn, fullFor, badSize, lastLimit, otherLimit, nextRoom, itemFaults, faultsOf, roomAt, faultsAt}
 use Rattle.part_lengths.proofs.Backs.{before-last, both-told}
 
 -- ---- the size before an item
@@ -50,7 +50,7 @@ module _ (ps : List ℕ) (r : Room) (t : List ℕ) (i : ℕ) where
   pub item-told : {b c : Bool} {o p : Place} {z q : ℕ} → b ≡ fullFor r (opAt t i) (valueAt t i) → o ≡ placeTold (earliest (when b (placeAt t i)))
       → z ≡ sizeIn (before t i) → q ≡ sizePlaceIn (before t i) (placeAt t i) → c ≡ badSize (r .cells) (opAt t i) z → p ≡ placeTold (earliest (when c q))
       → {l m : ℕ} → l ≡ lastLimit (opAt t i) (valueAt t i) → m ≡ otherLimit (opAt t i) (valueAt t i) → {h : Place} → h ≡ placeTold (earliest (heldIn ps (before t i) l m))
-      → {x y : Place} → x ≡ bothOf p h → y ≡ bothOf o x → y ≡ placeTold (earliest (itemFaults ps r (before t i) (opAt t i) (placeAt t i) (valueAt t i)))
+      → {x y : Place} → x ≡ bothOf p h → y ≡ bothOf o x → y ≡ placeTold (earliest (faultsOf ps r t i))
   unfolding itemFaults
   item-told {b} {c} {o} {p} {z} {q} e1 e2 e3 e4 e5 e6 {l} {m} e7 e8 {h} e9 {x} e10 e11 =
       e11 ∙ ap₂ bothOf (e2 ∙ ap (λ (b : Bool). placeTold (earliest (when b (placeAt t i)))) e1)
@@ -61,9 +61,9 @@ module _ (ps : List ℕ) (r : Room) (t : List ℕ) (i : ℕ) where
 
 module _ (ps t : List ℕ) (i : ℕ) where
   pub faults-more : {room : Room} {here first r : Place} → room ≡ roomAt t i → first ≡ placeTold (earliest (faultsAt ps t i))
-      → here ≡ placeTold (earliest (itemFaults ps room (before t i) (opAt t i) (placeAt t i) (valueAt t i))) → r ≡ bothOf here first → r ≡ placeTold (earliest (faultsAt ps t (i + 1)))
+      → here ≡ placeTold (earliest (faultsOf ps room t i)) → r ≡ bothOf here first → r ≡ placeTold (earliest (faultsAt ps t (i + 1)))
   unfolding faultsAt
-  faults-more {room} m f h q = rw (add-one i) (q ∙ ap₂ bothOf (h ∙ ap (λ (r : Room). placeTold (earliest (itemFaults ps r (before t i) (opAt t i) (placeAt t i) (valueAt t i)))) m) f ∙ both-told _ _)
+  faults-more {room} m f h q = rw (add-one i) (q ∙ ap₂ bothOf (h ∙ ap (λ (r : Room). placeTold (earliest (faultsOf ps r t i))) m) f ∙ both-told _ _)
 
 module _ (t : List ℕ) (i : ℕ) where
   pub room-more : {room r : Room} {z : ℕ} → room ≡ roomAt t i → z ≡ sizeIn (before t i) → r ≡ nextRoom room (opAt t i) z → r ≡ roomAt t (i + 1)

@@ -102,6 +102,10 @@ nextRoom r o z =
 unfoldable pub itemFaults : List ℕ → Room → List Triple → ℕ → ℕ → ℕ → List ℕ
 itemFaults ps r l o p v = when (fullFor r o v) p ++ (when (badSize (r .cells) o (sizeIn l)) (sizePlaceIn l p) ++ heldIn ps l (lastLimit o v) (otherLimit o v))
 
+-- and of item i of a tape
+abbrev pub faultsOf : List ℕ → Room → List ℕ → ℕ → List ℕ
+faultsOf ps r t i = itemFaults ps r (before t i) (opAt t i) (placeAt t i) (valueAt t i)
+
 unfoldable pub roomAt : List ℕ → ℕ → Room
 roomAt t zero = allRoom
 roomAt t (suc i) = nextRoom (roomAt t i) (opAt t i) (sizeIn (before t i))
@@ -109,4 +113,4 @@ roomAt t (suc i) = nextRoom (roomAt t i) (opAt t i) (sizeIn (before t i))
 -- the faults of the first items, the last first
 unfoldable pub faultsAt : List ℕ → List ℕ → ℕ → List ℕ
 faultsAt ps t zero = []
-faultsAt ps t (suc i) = itemFaults ps (roomAt t i) (before t i) (opAt t i) (placeAt t i) (valueAt t i) ++ faultsAt ps t i
+faultsAt ps t (suc i) = faultsOf ps (roomAt t i) t i ++ faultsAt ps t i

@@ -16,7 +16,7 @@ use Rattle.figures.specs.declared.Stage.{Stage}
 use Rattle.figures.specs.declared.Stage.the-variants.{ActorCount, Actor, BindingsCount, Bindings, CycleCount, Line, Through, Wrong, Stopped}
 use Rattle.figures.specs.declared.State.{State}
 use Rattle.tipirun.specs.Reading.{judgedOf}
-use Rattle.input_bytes.specs.Bytes.{Machine, machine, movedOf, TablesStand}
+use Rattle.input_bytes.specs.Bytes.{Machine, machine, movedOf, writing, TablesStand}
 use Rattle.tipirun.specs.Machine.{passedAt, passedOf, passedBy, Judges, StagePassed, Steps, unwritten, preceded, Runs, stays, goes, Feeds}
 use Rattle.figures.proofs.Bytes.{sets-append}
 use Rattle.input_bytes.proofs.Bytewise.{placeOf}
@@ -48,56 +48,63 @@ passed-at x s l = go (ltb 0 (s .left))
     go true = refl
     go false = stage-at x (s .stage) s l
 
-pub one-byte : (m : Machine) (c at : ℕ) (t r : State) (old a b p p' v o u out : List ℕ) → TablesStand (movedOf m c) old at 378 t a b p v o u out → StagePassed t a b p r p' → Steps m c old at r a b p' v o u out
+pub one-byte : (m t : Machine) (c : ℕ) (r : State) (old p out : List ℕ) → TablesStand (movedOf m c) old (m .state .at) 378 t out → StagePassed (t .state) (t .actor) (t .bindings) (t .plan) r p
+    → Steps m c old (machine r (t .actor) (t .bindings) p (t .values) (t .outputs) (t .memory) []) out
 unfolding passedBy
-one-byte m c at t r old a b p p' v o u out x y =
-    let q : passedBy (y .what) (machine t a b p v o u (movedOf m c .wrote)) ≡ passedBy (y .what) (movedOf m c) = ap (passedBy (y .what)) (x .tables) in
+one-byte m t c r old p out x y =
+    let w : List ℕ = movedOf m c .wrote in
+    let q : passedBy (y .what) (writing w t) ≡ passedBy (y .what) (movedOf m c) = ap (passedBy (y .what)) (x .tables) in
     record {
       to = passedBy (y .what) (movedOf m c);
       stepped = record { what = y .what; judges = subst (λ (z : Machine). Judges (y .what) (z .state) (z .actor) (z .bindings)) (x .tables) (y .judges); makes = refl };
       stands = record {
-        tables = ap₂ (λ (z : State) (l : List ℕ). machine z a b l v o u (movedOf m c .wrote)) (y .stands) (y .table) ∙ q;
+        tables = ap₂ (λ (z : State) (l : List ℕ). machine z (t .actor) (t .bindings) l (t .values) (t .outputs) (t .memory) w) (y .stands) (y .table) ∙ q;
         bytes = x .bytes;
-        place = ap (λ (z : State). z .at) (y .stands) ∙ passed-at (y .what) t p ∙ x .place;
+        place = ap (λ (z : State). z .at) (y .stands) ∙ passed-at (y .what) (t .state) (t .plan) ∙ x .place;
         short = x .short;
       };
     }
 
 -- ---- bytes one after the other: once the rest has run, all has
 
-pub record Running (m : Machine) (bytes old : List ℕ) (at i : ℕ) (s : State) (a b p v o u out : List ℕ) : Type 0 where
+-- i bytes have made s of m
+pub record Running (m : Machine) (bytes old : List ℕ) (i : ℕ) (s : Machine) (out : List ℕ) : Type 0 where
   pub wrote : List ℕ
-  pub rest : (r : Machine) → Runs (machine s a b p v o u []) (drop i bytes) r → Runs m bytes (preceded wrote r)
-  pub written : out ≡ sets old at wrote
-  pub place : s .at ≡ at + length wrote
+  pub rest : (r : Machine) → Runs (unwritten s) (drop i bytes) r → Runs m bytes (preceded wrote r)
+  pub written : out ≡ sets old (m .state .at) wrote
+  pub place : s .state .at ≡ m .state .at + length wrote
   pub short : length wrote ≤ 378 * i
 
-pub starts : (s : State) (a b p v o u bytes out : List ℕ) → Running (machine s a b p v o u []) bytes out (s .at) 0 s a b p v o u out
-starts s a b p v o u bytes out = record { wrote = []; rest = λ r x. x; written = refl; place = omega arith; short = omega arith }
+pub starts : (m : Machine) (bytes out : List ℕ) → Running (unwritten m) bytes out 0 m out
+starts m bytes out = record { wrote = []; rest = λ r x. x; written = refl; place = omega arith; short = omega arith }
 
-pub more : (m : Machine) (bytes old : List ℕ) (at i : ℕ) (s t : State) (a b p v o u out a' b' p' v' o' u' out' : List ℕ) → i < length bytes → Running m bytes old at i s a b p v o u out
-    → Steps (machine s a b p v o u []) (getD bytes i 0) out (s .at) t a' b' p' v' o' u' out' → Running m bytes old at (i + 1) t a' b' p' v' o' u' out'
-more m bytes old at i s t a b p v o u out a' b' p' v' o' u' out' h x y =
+pub more : (m s t : Machine) (bytes old out new : List ℕ) (i : ℕ) → i < length bytes → Running m bytes old i s out → Steps (unwritten s) (getD bytes i 0) out t new → Running m bytes old (i + 1) t new
+more m s t bytes old out new i h x y =
     let w : List ℕ = y .to .wrote in
-    let e : unwritten (y .to) ≡ machine t a' b' p' v' o' u' [] = sym (ap unwritten (y .stands .tables)) in
+    let e : unwritten (y .to) ≡ unwritten t = sym (ap unwritten (y .stands .tables)) in
     let d : getD bytes i 0 ∷ drop (i + 1) bytes ≡ drop i bytes = ap (λ (k : ℕ). getD bytes i 0 ∷ drop k bytes) (add-one i) ∙ sym (drop-cons bytes i 0 h) in
     record {
       wrote = x .wrote ++ w;
       rest =
           λ r z.
-          let n = subst (λ (l : List ℕ). Runs (machine s a b p v o u []) l (preceded w r)) d (goes (y .stepped) (subst (λ (k : Machine). Runs k (drop (i + 1) bytes) r) (sym e) z)) in
-          subst (λ (l : List ℕ). Runs m bytes (machine (r .state) (r .actor) (r .bindings) (r .plan) (r .values) (r .outputs) (r .memory) l)) (sym (append-assoc (x .wrote) w (r .wrote))) (x .rest (preceded w r) n);
-      written = y .stands .bytes ∙ ap (λ (l : List ℕ). sets l (s .at) w) (x .written) ∙ sym (sets-append old at (s .at) (x .wrote) w (x .place));
+          let n = subst (λ (l : List ℕ). Runs (unwritten s) l (preceded w r)) d (goes (y .stepped) (subst (λ (k : Machine). Runs k (drop (i + 1) bytes) r) (sym e) z)) in
+          subst (λ (l : List ℕ). Runs m bytes (writing l r)) (sym (append-assoc (x .wrote) w (r .wrote))) (x .rest (preceded w r) n);
+      written = y .stands .bytes ∙ ap (λ (l : List ℕ). sets l (s .state .at) w) (x .written) ∙ sym (sets-append old (m .state .at) (s .state .at) (x .wrote) w (x .place));
       place = (let l = length-append (x .wrote) w in let f = x .place in let g = y .stands .place in omega arith);
       short = (let l = length-append (x .wrote) w in let f = x .short in let g = y .stands .short in omega arith);
     }
 
-pub all-fed : (m : Machine) (bytes old : List ℕ) (at i : ℕ) (s : State) (a b p v o u out : List ℕ) → length bytes ≤ i → i ≤ length bytes → Running m bytes old at i s a b p v o u out → Feeds m bytes old at s a b p v o u out
-all-fed m bytes old at i s a b p v o u out h k x =
+pub all-fed : (m s : Machine) (bytes old out : List ℕ) (i : ℕ) → length bytes ≤ i → i ≤ length bytes → Running m bytes old i s out → Feeds m bytes old s out
+all-fed m s bytes old out i h k x =
     let w : List ℕ = x .wrote in
     let n = append-nil w in
     record {
-      to = machine s a b p v o u (w ++ []);
-      runs = x .rest (machine s a b p v o u []) (subst (λ (l : List ℕ). Runs (machine s a b p v o u []) l (machine s a b p v o u [])) (sym (drop-of-length-le bytes h)) stays);
-      stands = record { tables = refl; bytes = x .written ∙ ap (sets old at) (sym n); place = x .place ∙ ap (λ (l : List ℕ). at + length l) (sym n); short = (let l = ap length n in let f = x .short in omega arith) };
+      to = writing (w ++ []) s;
+      runs = x .rest (unwritten s) (subst (λ (l : List ℕ). Runs (unwritten s) l (unwritten s)) (sym (drop-of-length-le bytes h)) stays);
+      stands = record {
+        tables = refl;
+        bytes = x .written ∙ ap (sets old (m .state .at)) (sym n);
+        place = x .place ∙ ap (λ (l : List ℕ). m .state .at + length l) (sym n);
+        short = (let l = ap length n in let f = x .short in omega arith);
+      };
     }

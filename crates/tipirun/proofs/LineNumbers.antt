@@ -13,7 +13,7 @@ use Rattle.figures.specs.declared.Stage.{Stage}
 use Rattle.figures.specs.declared.Stage.the-variants.{Line, Wrong}
 use Rattle.figures.specs.declared.State.{State}
 use Rattle.figures.specs.States.{wrongOf, grownOf, mostOf, staysOf, lineTakes, longerOf}
-use Rattle.input_bytes.specs.Lines.{unturned, lineByte}
+use Rattle.input_bytes.specs.Lines.{standing, lineByte}
 use Rattle.input_bytes.specs.Bytes.{Machine, machine, stated, lined, movedAt, movedOf}
 use Rattle.figures.proofs.Counting.{takes-none, takes-first, takes-next, most-mask, most-value}
 use Rattle.figures.proofs.Counting.{line-first, line-none}
@@ -33,14 +33,14 @@ bounds p = go (eqb p 0) refl
 
 -- ---- bytes that leave the line as it is, but for the state
 
-line-moved : (m : Machine) (b : ℕ) (t : State) → m .state .stage ≡ Line → unturned t (m .values) (m .outputs) (m .memory) ≡ lineByte (m .state) b (m .plan) (m .values) (m .outputs) (m .memory) → movedOf m b ≡ stated m t
+line-moved : (m : Machine) (b : ℕ) (t : State) → m .state .stage ≡ Line → standing t (m .values) (m .outputs) (m .memory) ≡ lineByte (m .state) b (m .plan) (m .values) (m .outputs) (m .memory) → movedOf m b ≡ stated m t
 unfolding movedOf movedAt
 line-moved m b t e f = ap (λ (g : Stage). movedAt g m b) e ∙ sym (ap (lined m) f)
 
-line-on : (m : Machine) (b : ℕ) (t : State) (bs out : List ℕ) → m .state .stage ≡ Line → 0 < t .left → unturned t (m .values) (m .outputs) (m .memory) ≡ lineByte (m .state) b (m .plan) (m .values) (m .outputs) (m .memory) → From m (b ∷ bs) out → From (stated m t) bs out
+line-on : (m : Machine) (b : ℕ) (t : State) (bs out : List ℕ) → m .state .stage ≡ Line → 0 < t .left → standing t (m .values) (m .outputs) (m .memory) ≡ lineByte (m .state) b (m .plan) (m .values) (m .outputs) (m .memory) → From m (b ∷ bs) out → From (stated m t) bs out
 line-on m b t bs out e h f x = still-comes (stated m t) bs out h (enters-by m (stated m t) b bs out (line-moved m b t e f) refl x)
 
-pub line-wrong : (m : Machine) (b : ℕ) (bs out : List ℕ) → m .state .stage ≡ Line → unturned (wrongOf (m .state)) (m .values) (m .outputs) (m .memory) ≡ lineByte (m .state) b (m .plan) (m .values) (m .outputs) (m .memory) → From m (b ∷ bs) out → out ≡ isBad
+pub line-wrong : (m : Machine) (b : ℕ) (bs out : List ℕ) → m .state .stage ≡ Line → standing (wrongOf (m .state)) (m .values) (m .outputs) (m .memory) ≡ lineByte (m .state) b (m .plan) (m .values) (m .outputs) (m .memory) → From m (b ∷ bs) out → out ≡ isBad
 line-wrong m b bs out e f x =
     closed bs (stated m (wrongOf (m .state))) out Wrong refl wrong-closed (on-to (wrongOf (m .state)) Wrong (line-moved m b (wrongOf (m .state)) e f) refl (wrong-closed .quiet) x)
     ∙ sym (ended-bad (stated m (wrongOf (m .state))) Wrong refl refl)

@@ -16,7 +16,7 @@ use Rattle.figures.specs.declared.Stage.{Stage}
 use Rattle.figures.specs.declared.Stage.the-variants.{Line}
 use Rattle.figures.specs.declared.State.{State}
 use Rattle.figures.specs.States.{grownOf, portOf, mostOf, lineTakes}
-use Rattle.input_bytes.specs.Lines.{Lined, inputFrom, nextInput, unturned, maskAfter, valuesAfter, turnedOf, numberEnds, lineByte}
+use Rattle.input_bytes.specs.Lines.{Lined, inputFrom, nextInput, standing, maskAfter, valuesAfter, turnedOf, numberEnds, lineByte}
 use Rattle.cycle_line.specs.Shown.{portsOf}
 use Rattle.input_bytes.specs.Bytes.{Machine, machine, stated, lined, movedAt, movedOf}
 use Rattle.tipirun.specs.Machine.{passedBy, Judges, unwritten}
@@ -118,7 +118,7 @@ module _ (p : List ℕ) where
     blanked : (i c : ℕ) (r out : List ℕ) → nextInput p (s .port) ≡ i → i < portsOf p → c ≡ 32 → Ended m s out v (c ∷ r)
         → From (machine (portOf (grownOf s v) (maskAfter (grownOf s v)) (i + 1)) (m .actor) (m .bindings) (m .plan) (valuesAfter (grownOf s v) (m .values)) (m .outputs) (m .memory) []) r out
     blanked i c r out q a f x =
-        let t : Lined = unturned (portOf (grownOf s v) (maskAfter (grownOf s v)) (i + 1)) (valuesAfter (grownOf s v) (m .values)) (m .outputs) (m .memory) in
+        let t : Lined = standing (portOf (grownOf s v) (maskAfter (grownOf s v)) (i + 1)) (valuesAfter (grownOf s v) (m .values)) (m .outputs) (m .memory) in
         still-comes (lined m t) r out h
         (enters-by (stated m (grownOf s v)) (lined m t) c r out
         (moved-as c t (x .stops c r refl) (blank-next (grownOf s v) c p (m .values) (m .outputs) (m .memory) i (portsOf p) (sym q) refl a f)) refl (x .rest))

@@ -110,4 +110,3 @@ told-plan s r y n e f = f ∙ ap (λ (z : Told). judgedOf z s) (sym e)
 pub told-refused : (s r : State) (y : Told) (n p : ℕ) (t : Text) → y ≡ Refused n t p → r ≡ startOf s (Stopped n p) 0 → r ≡ judgedOf y s
 unfolding judgedOf
 told-refused s r y n p t e f = f ∙ ap (λ (z : Told). judgedOf z s) (sym e)
-

@@ -85,15 +85,16 @@ pub data Runs : Machine → List ℕ → Machine → Type 0 where
   stays : {m : Machine} → Runs m [] (unwritten m)
   goes : {m t r : Machine} {b : ℕ} {bs : List ℕ} → Stepped m b t → Runs (unwritten t) bs r → Runs m (b ∷ bs) (preceded (t .wrote) r)
 
-pub record Steps (m : Machine) (b : ℕ) (old : List ℕ) (at : ℕ) (r : State) (actor bindings plan values outputs memory out : List ℕ) : Type 0 where
+-- `after` and the table of bytes are what a byte, or some bytes, leave of `before`
+pub record Steps (before : Machine) (b : ℕ) (old : List ℕ) (after : Machine) (out : List ℕ) : Type 0 where
   pub to : Machine
-  pub stepped : Stepped m b to
-  pub stands : TablesStand to old at lineBytes r actor bindings plan values outputs memory out
+  pub stepped : Stepped before b to
+  pub stands : TablesStand to old (before .state .at) lineBytes after out
 
-pub record Feeds (m : Machine) (bytes old : List ℕ) (at : ℕ) (r : State) (actor bindings plan values outputs memory out : List ℕ) : Type 0 where
+pub record Feeds (before : Machine) (bytes old : List ℕ) (after : Machine) (out : List ℕ) : Type 0 where
   pub to : Machine
-  pub runs : Runs m bytes to
-  pub stands : TablesStand to old at (lineBytes * length bytes) r actor bindings plan values outputs memory out
+  pub runs : Runs before bytes to
+  pub stands : TablesStand to old (before .state .at) (lineBytes * length bytes) after out
 
 -- "the plan table holds 16,384 numbers"
 abbrev pub room : ℕ

@@ -23,9 +23,10 @@ pub fn step(
     out: &mut [u8],
 ) -> State
     requires { ⌜ Roomy (now values) (now outputs) (now memory) (now out) (s .at) ⌝ }
-    ensures { λ r. ⌜ Steps
-        (machine s (now (actor .entry)) (now (bindings .entry)) (now (plan .entry)) (now (values .entry)) (now (outputs .entry)) (now (memory .entry)) []) b
-        (now (out .entry)) (s .at) r (now (actor .exit)) (now (bindings .exit)) (now (plan .exit)) (now (values .exit)) (now (outputs .exit)) (now (memory .exit)) (now (out .exit)) ⌝ }
+    ensures { λ r.
+        let before = machine s (now (actor .entry)) (now (bindings .entry)) (now (plan .entry)) (now (values .entry)) (now (outputs .entry)) (now (memory .entry)) [] in
+        let after = machine r (now (actor .exit)) (now (bindings .exit)) (now (plan .exit)) (now (values .exit)) (now (outputs .exit)) (now (memory .exit)) [] in
+        ⌜ Steps before b (now (out .entry)) after (now (out .exit)) ⌝ }
 {
     let t = moved(s, b, actor, bindings, plan, values, outputs, memory, out);
     passed(t, actor, bindings, plan)
@@ -44,9 +45,10 @@ pub fn feed(
     out: &mut [u8],
 ) -> State
     requires { ⌜ Roomy (now values) (now outputs) (now memory) (now out) (s .at + lineBytes * length (now bytes)) ⌝ }
-    ensures { λ r. ⌜ Feeds
-        (machine s (now (actor .entry)) (now (bindings .entry)) (now (plan .entry)) (now (values .entry)) (now (outputs .entry)) (now (memory .entry)) []) (now (bytes .entry))
-        (now (out .entry)) (s .at) r (now (actor .exit)) (now (bindings .exit)) (now (plan .exit)) (now (values .exit)) (now (outputs .exit)) (now (memory .exit)) (now (out .exit)) ⌝ }
+    ensures { λ r.
+        let before = machine s (now (actor .entry)) (now (bindings .entry)) (now (plan .entry)) (now (values .entry)) (now (outputs .entry)) (now (memory .entry)) [] in
+        let after = machine r (now (actor .exit)) (now (bindings .exit)) (now (plan .exit)) (now (values .exit)) (now (outputs .exit)) (now (memory .exit)) [] in
+        ⌜ Feeds before (now (bytes .entry)) (now (out .entry)) after (now (out .exit)) ⌝ }
 {
     let mut t = s;
     let mut i = 0;

@@ -32,7 +32,7 @@ roomy values outputs memory out at n a b c d e h = record { ports = omega arith;
 few : (n k : ℕ) (l : List ℕ) → length l ≡ k → k ≡ 64 → n ≤ length l → length (take n l) ≤ 64
 few n k l e f h = let q = length-take n l in omega arith
 
-fed : {m : Machine} {bytes old a b p v o u out : List ℕ} {at : ℕ} {r : State} (l : List ℕ) → Feeds m bytes old at r a b p v o u out → at ≡ 0 → length bytes ≤ 64 → length l ≡ 32768 → r .at ≤ length l
+fed : {m r : Machine} {bytes old out : List ℕ} (l : List ℕ) → Feeds m bytes old r out → m .state .at ≡ 0 → length bytes ≤ 64 → length l ≡ 32768 → r .state .at ≤ length l
 fed l x e h q = let f = x .stands .place in let g = x .stands .short in omega arith
 
 shown : {old new w : List ℕ} {at next : ℕ} → Wrote old at w 5377 next new → at ≡ 0 → length old ≡ 32768 → length new ≡ length old → next ≤ length new

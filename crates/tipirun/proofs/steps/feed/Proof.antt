@@ -6,32 +6,32 @@ use Prim.Native.Nat.{ℕ, _+_, _-_, _*_, _≤_, _<_}
 use native.Mathlib.Omega.{arith}
 use lib.ListN.{length}
 use Rattle.input_bytes.specs.Lines.{Roomy}
-use Rattle.input_bytes.specs.Bytes.{machine}
+use Rattle.input_bytes.specs.Bytes.{Machine, machine}
 use Rattle.tipirun.proofs.Bytewise.{Running, starts, more, all-fed}
 use Rattle.tipirun.proofs.steps.feed.Statement.{statement}
 use Rattle.tipirun.proofs.steps.feed.Tie as tie
 
 -- the tables are as long as they were
-record Long (a a₀ b b₀ p p₀ v v₀ o o₀ m m₀ out out₀ : List ℕ) : Type 0 where
-  actor : length a ≡ length a₀
-  bindings : length b ≡ length b₀
-  plan : length p ≡ length p₀
-  values : length v ≡ length v₀
-  outputs : length o ≡ length o₀
-  memory : length m ≡ length m₀
-  bytes : length out ≡ length out₀
+record Long (t s : Machine) (out old : List ℕ) : Type 0 where
+  actor : length (t .actor) ≡ length (s .actor)
+  bindings : length (t .bindings) ≡ length (s .bindings)
+  plan : length (t .plan) ≡ length (s .plan)
+  values : length (t .values) ≡ length (s .values)
+  outputs : length (t .outputs) ≡ length (s .outputs)
+  memory : length (t .memory) ≡ length (s .memory)
+  bytes : length out ≡ length old
 
 abbrev Inv-loop : tie.InvT-loop
 Inv-loop bytes actor₀ bindings₀ plan₀ values₀ outputs₀ memory₀ out₀ t₀ i₀ actor bindings plan values outputs memory out t i =
-    (i ≤ length bytes) × Roomy values₀ outputs₀ memory₀ out₀ (t₀ .at + 378 * length bytes) × Long actor actor₀ bindings bindings₀ plan plan₀ values
-    values₀ outputs outputs₀ memory memory₀ out out₀ × Running (machine t₀ actor₀ bindings₀ plan₀ values₀ outputs₀ memory₀ []) bytes out₀ (t₀ .at) i t
-    actor bindings plan values outputs memory out
+    let before : Machine = machine t₀ actor₀ bindings₀ plan₀ values₀ outputs₀ memory₀ [] in
+    let after : Machine = machine t actor bindings plan values outputs memory [] in
+    (i ≤ length bytes) × Roomy values₀ outputs₀ memory₀ out₀ (t₀ .at + 378 * length bytes) × Long after before out out₀ × Running before bytes out₀ i after out
 
 abbrev μ-loop : tie.MeasureT-loop
 μ-loop bytes actor₀ bindings₀ plan₀ values₀ outputs₀ memory₀ out₀ t₀ i₀ actor bindings plan values outputs memory out t i = length bytes - i
 
 loop-holds : tie.Need-loop-holds Inv-loop μ-loop
-loop-holds c = (omega arith, c .before .before .before .before .before .before .before .before .pre, record { actor = refl; bindings = refl; plan = refl; values = refl; outputs = refl; memory = refl; bytes = refl }, starts _ _ _ _ _ _ _ _ _)
+loop-holds c = (omega arith, c .before .before .before .before .before .before .before .before .pre, record { actor = refl; bindings = refl; plan = refl; values = refl; outputs = refl; memory = refl; bytes = refl }, starts _ _ _)
 
 shared-slice-read-step : tie.Need-shared-slice-read-step Inv-loop μ-loop
 shared-slice-read-step c = search needs
@@ -77,7 +77,7 @@ loop-again c =
         bytes = step .kept .1 .1 .1 .1 .1 .1 .1 .1 .0 ∙
             loop .inv .2 .bytes;
       },
-      more _ _ _ _ _ _ _ _ _ _ _ _ _ _ _ _ _ _ _ _ _ (loop-test .taken) (loop .inv .3) (step .ensures),
+      more _ _ _ _ _ _ _ _ (loop-test .taken) (loop .inv .3) (step .ensures),
     )
 
 same-length : tie.Need-same-length Inv-loop μ-loop
@@ -102,7 +102,7 @@ same-length-7 : tie.Need-same-length-7 Inv-loop μ-loop
 same-length-7 c = c .before .loop .inv .2 .bytes
 
 returns : tie.Need-returns Inv-loop μ-loop
-returns c = all-fed _ _ _ _ _ _ _ _ _ _ _ _ _ (c .loop-test .left) (c .before .loop .inv .0) (c .before .loop .inv .3)
+returns c = all-fed _ _ _ _ _ _ (c .loop-test .left) (c .before .loop .inv .0) (c .before .loop .inv .3)
 
 pub feed-spec : {M : Type 1} → statement M
 feed-spec =
