@@ -3,7 +3,7 @@
 use mathlib.Core.Path.{_≡_, refl}
 use mathlib.Core.Bool.{Bool, true, false, _&&_}
 use mathlib.Core.List.{List, [], _∷_, _++_}
-use Prim.Native.Nat.{ℕ, _+_, _*_}
+use Prim.Native.Nat.{ℕ, _+_, _*_, _≤_}
 use lib.Dec.{leb}
 use lib.ListN.{length}
 use lib.Seq.{sets}
@@ -11,6 +11,7 @@ use Rattle.language.specs.Limits.{limits}
 use Rattle.language.specs.Bindings.{Binding, Bindings, bindingsOf, bound, wrongAt}
 use Rattle.bindings.specs.declared.Answer.{Answer}
 use Rattle.bindings.specs.declared.Answer.the-variants.{Bound, Wrong, NoRoom}
+use Rattle.bindings.specs.declared.Lines.{Lines}
 
 unfoldable pub cells : List Binding → List ℕ
 cells [] = []
@@ -25,6 +26,13 @@ mostNumbers = 96
 
 pub sizes : mostNumbers ≡ 2 * (3 * limits .lines)
 sizes = refl
+
+-- so many lines of widths and of values; a table with room for them
+abbrev pub soMany : (widths values : ℕ) → Lines
+soMany widths values = record { widths = widths; values = values }
+
+abbrev pub Lined : Lines → List ℕ → Type 0
+Lined lines t = 3 * (lines .widths + lines .values) ≤ length t
 
 -- the text is short enough (row 1 has tested that) and a table of any bindings fits
 unfoldable pub roomy : List ℕ → List ℕ → Bool

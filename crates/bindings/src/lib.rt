@@ -27,6 +27,12 @@ pub enum Answer {
     NoRoom,
 }
 
+// How many lines of the table bind widths, and how many after them values.
+pub struct Lines {
+    pub widths: usize,
+    pub values: usize,
+}
+
 const WIDTH: usize = language::Plan::WIDTH as usize;
 
 const VALUE: usize = language::Type::NUMBER as usize;
@@ -71,7 +77,7 @@ fn line(text: &[u8], table: &mut [u32], i: usize, from: usize, most: usize) -> S
 }
 
 // Reads k lines and stores them.
-fn lines(text: &[u8], table: &mut [u32], k: usize, from: usize, most: usize) -> Step
+fn each_line(text: &[u8], table: &mut [u32], k: usize, from: usize, most: usize) -> Step
     requires { ⌜ Lent (now text) (now table) 0 from ⌝ }
     requires { ⌜ (k ≤ limits .lines) × Greatest most ⌝ }
     ensures { λ r. ⌜ ReadsLines (now (text .entry)) (linesOf (length (now (text .entry))) most k [] (drop from (now (text .entry)))) r (now (table .exit)) ⌝ }
@@ -96,7 +102,7 @@ fn section(text: &[u8], table: &mut [u32], from: usize, most: usize) -> Step
 {
     match number_line(text, from, LINES) {
         Step::Lost(p) => Step::Lost(p),
-        Step::Went(at, k) => lines(text, table, k, at, most),
+        Step::Went(at, k) => each_line(text, table, k, at, most),
     }
 }
 

@@ -9,6 +9,7 @@ use Rattle.language.specs.Tree.{Actor}
 use Rattle.language.specs.Bindings.{Bindings}
 use Rattle.language.specs.Reading.{Early, stopped, through, judged}
 use Rattle.tape.specs.Row.{Tells}
+use Rattle.bindings.specs.declared.Lines.{Lines}
 use Rattle.row09_bindings.specs.Lines.{Binds}
 use Rattle.early_rows.specs.declared.Verdict.{Verdict}
 use Rattle.early_rows.specs.declared.Verdict.the-variants.{Stopped, Through}
@@ -19,11 +20,11 @@ verdictOf (stopped n t p) = Stopped n t p
 verdictOf (through a b) = Through
 
 -- a tape and a table that hold an actor and its bindings
-pub record TextsHeld (text t : List ℕ) (n : ℕ) (btext table : List ℕ) (k m : ℕ) (ws : List Word) (a : Actor) (b : Bindings) : Type 0 where
+pub record TextsHeld (text t : List ℕ) (n : ℕ) (btext table : List ℕ) (lines : Lines) (ws : List Word) (a : Actor) (b : Bindings) : Type 0 where
   pub short : length text ≤ limits .actor
   pub tells : Tells text t n ws a
-  pub binds : Binds btext table k m b
+  pub binds : Binds btext table lines b
 
 -- the verdict is that of the actor and the bindings that they hold
-abbrev pub FirstTold : (text t : List ℕ) (n : ℕ) (btext table : List ℕ) (k m : ℕ) → Verdict → Type 0
-FirstTold text t n btext table k m r = (ws : List Word) (a : Actor) (b : Bindings) → TextsHeld text t n btext table k m ws a b → r ≡ verdictOf (judged ws a b)
+abbrev pub FirstTold : (text t : List ℕ) (n : ℕ) (btext table : List ℕ) → Lines → Verdict → Type 0
+FirstTold text t n btext table lines r = (ws : List Word) (a : Actor) (b : Bindings) → TextsHeld text t n btext table lines ws a b → r ≡ verdictOf (judged ws a b)

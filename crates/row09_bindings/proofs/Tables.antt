@@ -13,8 +13,9 @@ use Rattle.language.specs.Parts.{each}
 use Rattle.language.specs.Tree.{spelledOf}
 use Rattle.language.specs.Bindings.{Binding, Bindings, Bound, bound, wrongAt, bindingsOf}
 use Rattle.language.specs.Widths.{boundNames}
-use Rattle.bindings.specs.Table.{cells, tableOf, roomy, answerOf, tableAfter}
+use Rattle.bindings.specs.Table.{cells, tableOf, soMany, Lined, roomy, answerOf, tableAfter}
 use Rattle.binding_names.specs.Names.{lineIn}
+use Rattle.bindings.specs.declared.Lines.{Lines}
 use Rattle.bindings.specs.declared.Answer.{Answer}
 use Rattle.bindings.specs.declared.Answer.the-variants.{Bound as IsBound, Wrong, NoRoom}
 use Rattle.placed.specs.Placed.{Every}
@@ -50,26 +51,26 @@ cells-long [] = refl
 cells-long (x ∷ l) = let e = cells-long l in omega arith
 
 -- the lines of both sections
-module _ {btext t : List ℕ} {k m : ℕ} {b : Bindings} (h : Binds btext t k m b) where
-  holds-all : t ≡ cells (b .widths) ++ (cells (b .values) ++ drop (3 * (k + m)) t)
+module _ {btext t : List ℕ} {lines : Lines} {b : Bindings} (h : Binds btext t lines b) where
+  holds-all : t ≡ cells (b .widths) ++ (cells (b .values) ++ drop (3 * (lines .widths + lines .values)) t)
   unfolding tableOf
-  holds-all = sym (take-append-drop (3 * (k + m)) t) ∙ ap (λ (l : List ℕ). l ++ drop (3 * (k + m)) t) (h .holds) ∙ append-assoc (cells (b .widths)) (cells (b .values)) (drop (3 * (k + m)) t)
+  holds-all = sym (take-append-drop (3 * (lines .widths + lines .values)) t) ∙ ap (λ (l : List ℕ). l ++ drop (3 * (lines .widths + lines .values)) t) (h .holds) ∙ append-assoc (cells (b .widths)) (cells (b .values)) (drop (3 * (lines .widths + lines .values)) t)
 
-  pub widths-on : linesOn btext t 0 k ≡ b .widths
+  pub widths-on : linesOn btext t 0 (lines .widths) ≡ b .widths
   widths-on = ap (linesOn btext t 0) (h .widths) ∙ lines-are btext t (b .widths) 0 _ (bound-names btext (h .reads) .widths) holds-all
 
-  pub values-on : linesOn btext t k m ≡ b .values
-  values-on = ap (linesOn btext t k) (h .values) ∙ lines-are btext t (b .values) k _ (bound-names btext (h .reads) .values) (ap (drop (3 * k)) holds-all ∙ drop-at (cells (b .widths)) _ (3 * k) (let e = cells-long (b .widths) in let f = h .widths in omega arith))
+  pub values-on : linesOn btext t (lines .widths) (lines .values) ≡ b .values
+  values-on = ap (linesOn btext t (lines .widths)) (h .values) ∙ lines-are btext t (b .values) (lines .widths) _ (bound-names btext (h .reads) .values) (ap (drop (3 * lines .widths)) holds-all ∙ drop-at (cells (b .widths)) _ (3 * lines .widths) (let e = cells-long (b .widths) in let f = h .widths in omega arith))
 
 -- ---- the table that `bindings::read` fills
 
-pub record Filled (btext table : List ℕ) (k m : ℕ) : Type 0 where
+pub record Filled (btext table : List ℕ) (lines : Lines) : Type 0 where
   pub bindings : Bindings
-  pub binds : Binds btext table k m bindings
-  pub room : 3 * (k + m) ≤ length table
+  pub binds : Binds btext table lines bindings
+  pub room : Lined lines table
 
 module _ (btext t : List ℕ) where
-  filled : (b : Bindings) → bindingsOf btext ≡ bound b → 96 ≤ length t → Filled btext (sets t 0 (tableOf b)) (length (b .widths)) (length (b .values))
+  filled : (b : Bindings) → bindingsOf btext ≡ bound b → 96 ≤ length t → Filled btext (sets t 0 (tableOf b)) (soMany (length (b .widths)) (length (b .values)))
   unfolding tableOf
   filled b e h =
       record {
@@ -84,7 +85,7 @@ module _ (btext t : List ℕ) where
       few : length (cells (b .widths) ++ cells (b .values)) ≤ 96
       few = let l = long in let x = bound-names btext e .few-widths in let y = bound-names btext e .few-values in omega arith
 
-  pub read-fills : {k m : ℕ} → answerOf btext t ≡ IsBound k m → Filled btext (tableAfter btext t) k m
+  pub read-fills : {k m : ℕ} → answerOf btext t ≡ IsBound k m → Filled btext (tableAfter btext t) (soMany k m)
   unfolding answerOf tableAfter roomy
   read-fills {k} {m} e = go (roomy btext t) refl (bindingsOf btext) refl e
     where
@@ -96,7 +97,10 @@ module _ (btext t : List ℕ) where
           last false y e = absurd (let z : _≡_ {A = ℕ} 0 1 = cc in omega arith)
 
       go : (r : Bool) → roomy btext t ≡ r → (g : Bound) → bindingsOf btext ≡ g → _≡_ {A = Answer} (elim r [ false ↦ NoRoom | true ↦ elim g [ bound b ↦ IsBound (length (b .widths)) (length (b .values)) | wrongAt p ↦ Wrong p ] ]) (IsBound k m)
-          → Filled btext (elim r [ false ↦ t | true ↦ elim g [ bound b ↦ sets t 0 (tableOf b) | wrongAt p ↦ t ] ]) k m
+          → Filled btext (elim r [ false ↦ t | true ↦ elim g [ bound b ↦ sets t 0 (tableOf b) | wrongAt p ↦ t ] ]) (soMany k m)
       go false q g f e = absurd (let z : _≡_ {A = ℕ} 0 1 = cc in omega arith)
       go true q (wrongAt p) f e = absurd (let z : _≡_ {A = ℕ} 0 1 = cc in omega arith)
-      go true q (bound b) f e = let x : length (b .widths) ≡ k = cc in let y : length (b .values) ≡ m = cc in subst (λ (k : ℕ). Filled btext (sets t 0 (tableOf b)) k m) x (subst (λ (m : ℕ). Filled btext (sets t 0 (tableOf b)) (length (b .widths)) m) y (filled b f (wide q)))
+      go true q (bound b) f e =
+          let x : length (b .widths) ≡ k = cc in
+          let y : length (b .values) ≡ m = cc in
+          subst (λ (k : ℕ). Filled btext (sets t 0 (tableOf b)) (soMany k m)) x (subst (λ (m : ℕ). Filled btext (sets t 0 (tableOf b)) (soMany (length (b .widths)) m)) y (filled b f (wide q)))

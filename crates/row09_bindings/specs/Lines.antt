@@ -5,6 +5,7 @@ use Prim.Native.Nat.{ℕ, zero, suc, _+_, _*_}
 use lib.ListN.{length, getD, take, drop}
 use Rattle.language.specs.Bindings.{Binding, Bindings, bindingsOf, bound}
 use Rattle.bindings.specs.Table.{tableOf}
+use Rattle.bindings.specs.declared.Lines.{Lines}
 use Rattle.binding_names.specs.Names.{lineIn}
 
 -- the name of line i; the names of n lines from one on; the lines
@@ -19,9 +20,9 @@ unfoldable pub linesOn : (btext table : List ℕ) → (from n : ℕ) → List Bi
 linesOn btext table from zero = []
 linesOn btext table from (suc n) = lineIn btext table from ∷ linesOn btext table (suc from) n
 
--- a bindings text that was read, and the table that holds its k lines of widths and m lines of values
-pub record Binds (btext table : List ℕ) (k m : ℕ) (b : Bindings) : Type 0 where
+-- a bindings text that was read, and the table that holds its lines, so many of widths and of values
+pub record Binds (btext table : List ℕ) (lines : Lines) (b : Bindings) : Type 0 where
   pub reads : bindingsOf btext ≡ bound b
-  pub widths : k ≡ length (b .widths)
-  pub values : m ≡ length (b .values)
-  pub holds : take (3 * (k + m)) table ≡ tableOf b
+  pub widths : lines .widths ≡ length (b .widths)
+  pub values : lines .values ≡ length (b .values)
+  pub holds : take (3 * (lines .widths + lines .values)) table ≡ tableOf b

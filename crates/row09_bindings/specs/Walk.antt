@@ -7,6 +7,7 @@ use Rattle.language.specs.Text.{among}
 use Rattle.placed.specs.Placed.{nameFrom}
 use Rattle.tape.specs.Tape.{ENVIRONMENT, VALUE, DECLARED, MEMORY}
 use Rattle.tape.specs.Walk.{opAt, placeAt, valueAt, marked}
+use Rattle.bindings.specs.declared.Lines.{Lines}
 use Rattle.row09_bindings.specs.Lines.{namesOn}
 
 -- a declaration without a type, by its item's value: 1 for a type and 2 for an input
@@ -28,10 +29,10 @@ ask environs ports memories o v n =
 abbrev pub lacking : List (List ℕ) → List ℕ → Bool
 lacking names n = not (among names n)
 
--- item i, where the bindings' first k lines are widths and the m after them values
-abbrev pub openAt : (text t btext table : List ℕ) → (k m i : ℕ) → Bool
-openAt text t btext table k m i = ask (lacking (namesOn btext table k m)) (lacking (namesOn btext table 0 k)) true (opAt t i) (valueAt t i) (nameFrom text (placeAt t i))
+-- item i, by the lines of the bindings
+abbrev pub openAt : (text t btext table : List ℕ) → Lines → ℕ → Bool
+openAt text t btext table lines i = ask (lacking (namesOn btext table (lines .widths) (lines .values))) (lacking (namesOn btext table 0 (lines .widths))) true (opAt t i) (valueAt t i) (nameFrom text (placeAt t i))
 
 -- the places of the open items among the first i
-abbrev pub opensAt : (text t btext table : List ℕ) → (k m i : ℕ) → List ℕ
-opensAt text t btext table k m i = marked (λ j. openAt text t btext table k m j) t i
+abbrev pub opensAt : (text t btext table : List ℕ) → Lines → ℕ → List ℕ
+opensAt text t btext table lines i = marked (λ j. openAt text t btext table lines j) t i

@@ -1,6 +1,7 @@
 // Row 9 of document 01: the bindings of an actor, read off its tape and the table of the bindings' lines.
 // What comes in: the actor's text and tape, the bindings' text and table. What goes out: the earliest line that binds no
 // port or no environment name of the actor, and the earliest name of the actor that has neither a type nor a binding.
+use bindings::Lines;
 use tape::Class;
 use tape::DECLARED;
 use tape::ENVIRONMENT;
@@ -11,21 +12,16 @@ use tape::said;
 use tape::wide;
 use words::Place;
 ghost use mathlib.Core.Path.{_≡_};
-ghost use mathlib.Core.List.{List, _++_};
-ghost use Prim.Native.Nat.{ℕ, _+_, _-_, _*_, _≤_, _<_};
+ghost use Prim.Native.Nat.{_+_, _-_, _*_, _≤_, _<_};
 ghost use lib.ListN.{length};
 ghost use Rattle.language.specs.Text.{index, earliest};
-ghost use Rattle.language.specs.Words.{Word};
-ghost use Rattle.language.specs.Tree.{Actor};
-ghost use Rattle.language.specs.Names.{missing};
-ghost use Rattle.language.specs.Bindings.{Bindings};
-ghost use Rattle.language.specs.Widths.{boundNames, strangers as strangersOf, unsettled as unsettledOf};
+ghost use Rattle.language.specs.Widths.{strangers as strangersOf, unsettled as unsettledOf};
 ghost use Rattle.words.specs.Found.{placeTold};
 ghost use Rattle.placed.specs.Placed.{nameFrom};
-ghost use Rattle.tape.specs.Row.{Tells};
-ghost use Rattle.tape.specs.Walk.{between};
-ghost use Rattle.row09_bindings.specs.Lines.{nameOn, namesOn, linesOn, Binds};
+ghost use Rattle.bindings.specs.Table.{Lined};
+ghost use Rattle.row09_bindings.specs.Lines.{nameOn, namesOn};
 ghost use Rattle.row09_bindings.specs.Walk.{noType, openAt, opensAt};
+ghost use Rattle.row09_bindings.specs.Told.{StrangeTold, FaultsTold};
 
 // The name of a line.
 fn line_name<'a>(btext: &'a [u8], table: &[u32], i: usize) -> &'a [u8]
@@ -71,8 +67,7 @@ fn strange(
     rest: Place,
 ) -> Place
     requires { ⌜ (3 * many ≤ length (now tape)) × (from ≤ to) × (3 * to ≤ length (now table)) ⌝ }
-    ensures { λ r. ⌜ ((ps : List ℕ) → rest ≡ placeTold (earliest ps) → r
-        ≡ placeTold (earliest (missing (between (now (text .entry)) (now (tape .entry)) class 0 many) (boundNames (linesOn (now (btext .entry)) (now (table .entry)) from (to - from))) ++ ps))) ⌝ }
+    ensures { λ r. ⌜ StrangeTold (now (text .entry)) (now (tape .entry)) many class (now (btext .entry)) (now (table .entry)) from to rest r ⌝ }
 {
     let mut first = rest;
     let mut i = to;
@@ -85,20 +80,18 @@ fn strange(
     first
 }
 
-// The earliest place in the bindings of row 9: their first k lines bind widths, the m after them values.
+// The earliest place in the bindings of row 9.
 pub fn strangers(
     text: &[u8],
     tape: &[u32],
     n: usize,
     btext: &[u8],
     table: &[u32],
-    k: usize,
-    m: usize,
+    lines: Lines,
 ) -> Place
     requires { ⌜ n ≤ length (now tape) ⌝ }
-    requires { ⌜ 3 * (k + m) ≤ length (now table) ⌝ }
-    ensures { λ r. ⌜ ((ws : List Word) (a : Actor) (b : Bindings) → Tells (now (text .entry)) (now (tape .entry)) n ws a
-        → Binds (now (btext .entry)) (now (table .entry)) k m b → r ≡ placeTold (earliest (strangersOf a b))) ⌝ }
+    requires { ⌜ Lined lines (now table) ⌝ }
+    ensures { λ r. ⌜ FaultsTold (now (text .entry)) (now (tape .entry)) n (now (btext .entry)) (now (table .entry)) lines strangersOf r ⌝ }
 {
     let many = n / 3;
     let values = strange(
@@ -108,8 +101,8 @@ pub fn strangers(
         Class::Environment,
         btext,
         table,
-        k,
-        k + m,
+        lines.widths,
+        lines.widths + lines.values,
         Place::Nowhere,
     );
     strange(
@@ -120,7 +113,7 @@ pub fn strangers(
         btext,
         table,
         0,
-        k,
+        lines.widths,
         values,
     )
 }
@@ -138,19 +131,20 @@ fn open_at(
     tape: &[u32],
     btext: &[u8],
     table: &[u32],
-    k: usize,
-    m: usize,
+    lines: Lines,
     i: usize,
 ) -> bool
-    requires { ⌜ (3 * i + 2 < length (now tape)) × (3 * (k + m) ≤ length (now table)) ⌝ }
-    ensures { λ r. ⌜ r ≡ openAt (now (text .entry)) (now (tape .entry)) (now (btext .entry)) (now (table .entry)) k m i ⌝ }
+    requires { ⌜ (3 * i + 2 < length (now tape)) × Lined lines (now table) ⌝ }
+    ensures { λ r. ⌜ r ≡ openAt (now (text .entry)) (now (tape .entry)) (now (btext .entry)) (now (table .entry)) lines i ⌝ }
 {
     let place = wide(tape[3 * i + 1]);
+    let widths = lines.widths;
+    let end = widths + lines.values;
     match tape[3 * i] {
-        ENVIRONMENT | VALUE => found(text, place, btext, table, k, k + m) == k + m,
+        ENVIRONMENT | VALUE => found(text, place, btext, table, widths, end) == end,
         DECLARED => {
             if typeless(tape[3 * i + 2]) {
-                return found(text, place, btext, table, 0, k) == k;
+                return found(text, place, btext, table, 0, widths) == widths;
             }
             false
         }
@@ -166,16 +160,15 @@ fn walk(
     many: usize,
     btext: &[u8],
     table: &[u32],
-    k: usize,
-    m: usize,
+    lines: Lines,
 ) -> Place
-    requires { ⌜ (3 * many ≤ length (now tape)) × (3 * (k + m) ≤ length (now table)) ⌝ }
-    ensures { λ r. ⌜ r ≡ placeTold (earliest (opensAt (now (text .entry)) (now (tape .entry)) (now (btext .entry)) (now (table .entry)) k m many)) ⌝ }
+    requires { ⌜ (3 * many ≤ length (now tape)) × Lined lines (now table) ⌝ }
+    ensures { λ r. ⌜ r ≡ placeTold (earliest (opensAt (now (text .entry)) (now (tape .entry)) (now (btext .entry)) (now (table .entry)) lines many)) ⌝ }
 {
     let mut first = Place::Nowhere;
     let mut i = 0;
     while i < many {
-        if open_at(text, tape, btext, table, k, m, i) {
+        if open_at(text, tape, btext, table, lines, i) {
             first = words::earlier(tape[3 * i + 1], first);
         }
         i += 1;
@@ -183,20 +176,18 @@ fn walk(
     first
 }
 
-// The earliest place in the actor of row 9, where the bindings are as above.
+// The earliest place in the actor of row 9.
 pub fn unsettled(
     text: &[u8],
     tape: &[u32],
     n: usize,
     btext: &[u8],
     table: &[u32],
-    k: usize,
-    m: usize,
+    lines: Lines,
 ) -> Place
     requires { ⌜ n ≤ length (now tape) ⌝ }
-    requires { ⌜ 3 * (k + m) ≤ length (now table) ⌝ }
-    ensures { λ r. ⌜ ((ws : List Word) (a : Actor) (b : Bindings) → Tells (now (text .entry)) (now (tape .entry)) n ws a
-        → Binds (now (btext .entry)) (now (table .entry)) k m b → r ≡ placeTold (earliest (unsettledOf a b))) ⌝ }
+    requires { ⌜ Lined lines (now table) ⌝ }
+    ensures { λ r. ⌜ FaultsTold (now (text .entry)) (now (tape .entry)) n (now (btext .entry)) (now (table .entry)) lines unsettledOf r ⌝ }
 {
-    walk(text, tape, n / 3, btext, table, k, m)
+    walk(text, tape, n / 3, btext, table, lines)
 }

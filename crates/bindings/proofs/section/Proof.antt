@@ -17,8 +17,8 @@ enum-known-p c = search needs
 enum-known-at : tie.Need-enum-known-at
 enum-known-at c = search needs
 
-lines-requires : tie.Need-lines-requires
-lines-requires c κs =
+each-line-requires : tie.Need-each-line-requires
+each-line-requires c κs =
     let pre = c .before .before .before .before .before .before .before .pre in
     let number-line = c .before .before .before .before .number-line in
     let at = c .before .before .at in (
@@ -35,8 +35,8 @@ same-length : tie.Need-same-length
 same-length c = search needs
 
 returns-2 : tie.Need-returns-2
-returns-2 c = let w = c .before .before .lines .ensures in record { reads = record { tells = section-went _ _ _ (number-went (c .before .before .before .before .before .before .before .number-line .ensures) (c .before .before .before .before .before .at .given .1)) ∙ w .reads .tells; inside = w .reads .inside; small = w .reads .small }; named = w .named }
+returns-2 c = let w = c .before .before .each-line .ensures in record { reads = record { tells = section-went _ _ _ (number-went (c .before .before .before .before .before .before .before .number-line .ensures) (c .before .before .before .before .before .at .given .1)) ∙ w .reads .tells; inside = w .reads .inside; small = w .reads .small }; named = w .named }
 
 pub section-spec : {M : Type 1} → statement M
 section-spec =
-    tie.close (tie.spec number-line-requires enum-known-p enum-known-at lines-requires returns same-length returns-2)
+    tie.close (tie.spec number-line-requires enum-known-p enum-known-at each-line-requires returns same-length returns-2)

@@ -19,6 +19,9 @@ shared-slice-read-wide c = search needs
 wide-requires : tie.Need-wide-requires
 wide-requires c κs = search needs
 
+add-end : tie.Need-add-end
+add-end c = search needs
+
 mul-match : tie.Need-mul-match
 mul-match c = search needs
 
@@ -28,14 +31,8 @@ mul-match-2 c = search needs
 shared-slice-read-match : tie.Need-shared-slice-read-match
 shared-slice-read-match c = search needs
 
-add-found : tie.Need-add-found
-add-found c = search needs
-
 found-requires : tie.Need-found-requires
 found-requires c κs = search needs
-
-add-result : tie.Need-add-result
-add-result c = search needs
 
 mul-typeless : tie.Need-mul-typeless
 mul-typeless c = search needs
@@ -57,10 +54,10 @@ found-requires-2 c κs = search needs
 
 returns : tie.Need-returns
 returns c =
-    let args = c .before .before .before .before .before .before .before .before .before .before .before .before .args in
-    let wide = c .before .before .before .before .before .before .wide in
+    let args = c .before .before .before .before .before .before .before .before .before .before .before .before .before .args in
+    let wide = c .before .before .before .before .before .before .before .wide in
     let match = c .before .before .before .before .match in
-    at-port (args .text .now) (args .tape .now) (args .btext .now) (args .table .now) (args .k) (args .m) (args .i) (wide .ensures)
+    at-port (args .text .now) (args .tape .now) (args .btext .now) (args .table .now) (args .lines) (args .i) (wide .ensures)
     (c .before .before .typeless .ensures) (match .keys2) (c .before .if1 .taken) (c .found2 .ensures)
 
 mul-typeless-3 : tie.Need-mul-typeless-3
@@ -80,34 +77,34 @@ typeless-requires-2 c κs = search needs
 
 returns-2 : tie.Need-returns-2
 returns-2 c =
-    let args = c .before .before .before .before .before .before .before .before .before .args in
-    let wide = c .before .before .before .wide in
-    at-environ (args .text .now) (args .tape .now) (args .btext .now) (args .table .now) (args .k) (args .m) (args .i) (wide .ensures)
+    let args = c .before .before .before .before .before .before .before .before .before .before .args in
+    let wide = c .before .before .before .before .wide in
+    at-environ (args .text .now) (args .tape .now) (args .btext .now) (args .table .now) (args .lines) (args .i) (wide .ensures)
     (c .before .match .keys1) (c .found .ensures)
 
 returns-3 : tie.Need-returns-3
 returns-3 c =
-    let args = c .before .before .before .before .before .before .before .before .before .before .before .args in
-    let wide = c .before .before .before .before .before .wide in
+    let args = c .before .before .before .before .before .before .before .before .before .before .before .before .args in
+    let wide = c .before .before .before .before .before .before .wide in
     let match = c .before .before .before .match in
-    at-typed (args .text .now) (args .tape .now) (args .btext .now) (args .table .now) (args .k) (args .m) (args .i) (wide .ensures)
+    at-typed (args .text .now) (args .tape .now) (args .btext .now) (args .table .now) (args .lines) (args .i) (wide .ensures)
     (c .before .typeless .ensures) (match .keys2) (c .if1 .left)
 
 returns-4 : tie.Need-returns-4
 returns-4 c =
-    let args = c .before .before .before .before .before .before .before .before .before .before .args in
-    let wide = c .before .before .before .before .wide in
-    at-memory (args .text .now) (args .tape .now) (args .btext .now) (args .table .now) (args .k) (args .m) (args .i) (wide .ensures)
+    let args = c .before .before .before .before .before .before .before .before .before .before .before .args in
+    let wide = c .before .before .before .before .before .wide in
+    at-memory (args .text .now) (args .tape .now) (args .btext .now) (args .table .now) (args .lines) (args .i) (wide .ensures)
     (c .typeless2 .ensures) (c .before .before .match .keys3)
 
 returns-5 : tie.Need-returns-5
 returns-5 c =
-    let args = c .before .before .before .before .before .before .before .before .args in
-    at-none (args .text .now) (args .tape .now) (args .btext .now) (args .table .now) (args .k) (args .m) (args .i) (c .before .before .wide .ensures)
+    let args = c .before .before .before .before .before .before .before .before .before .args in
+    at-none (args .text .now) (args .tape .now) (args .btext .now) (args .table .now) (args .lines) (args .i) (c .before .before .before .wide .ensures)
     (c .match .rest .0 .0 .1) (c .match .rest .0 .1) (c .match .rest .1)
 
 pub open-at-spec : {M : Type 1} → statement M
 open-at-spec =
-    tie.close (tie.spec mul-wide add-wide mul-wide-2 shared-slice-read-wide wide-requires mul-match mul-match-2 shared-slice-read-match add-found
-    found-requires add-result mul-typeless add-typeless mul-typeless-2 shared-slice-read-typeless typeless-requires found-requires-2 returns
-    mul-typeless-3 add-typeless-2 mul-typeless-4 shared-slice-read-typeless-2 typeless-requires-2 returns-2 returns-3 returns-4 returns-5)
+    tie.close (tie.spec mul-wide add-wide mul-wide-2 shared-slice-read-wide wide-requires add-end mul-match mul-match-2 shared-slice-read-match
+    found-requires mul-typeless add-typeless mul-typeless-2 shared-slice-read-typeless typeless-requires found-requires-2 returns mul-typeless-3
+    add-typeless-2 mul-typeless-4 shared-slice-read-typeless-2 typeless-requires-2 returns-2 returns-3 returns-4 returns-5)

@@ -26,8 +26,8 @@ strange-requires-2 c κs = search needs
 
 returns : tie.Need-returns
 returns c =
-    let args = c .before .before .before .before .before .before .args in
-    let pre = c .before .before .before .before .before .before .pre in
+    let args = c .before .before .before .before .before .before .before .args in
+    let pre = c .before .before .before .before .before .before .before .pre in
     λ ws a b h g. let e = strange-lines (args .text .now) (args .tape .now) (args .n) (args .n / 3) (pre .0) (omega arith) (omega arith) h g in
     c .strange2 .ensures _ (c .before .strange .ensures [] nowhere) ∙ e
 

@@ -12,10 +12,10 @@ use Rattle.row09_bindings.proofs.walk.Statement.{statement}
 use Rattle.row09_bindings.proofs.walk.Tie as tie
 
 abbrev Inv-loop : tie.InvT-loop
-Inv-loop text tape many btext table k m first₀ i₀ first i = (i ≤ many) × (first ≡ placeTold (earliest (opensAt text tape btext table k m i)))
+Inv-loop text tape many btext table lines first₀ i₀ first i = (i ≤ many) × (first ≡ placeTold (earliest (opensAt text tape btext table lines i)))
 
 abbrev μ-loop : tie.MeasureT-loop
-μ-loop text tape many btext table k m first₀ i₀ first i = many - i
+μ-loop text tape many btext table lines first₀ i₀ first i = many - i
 
 loop-holds : tie.Need-loop-holds Inv-loop μ-loop
 loop-holds c = (omega arith, no-fault _ (c .before .before .before .before .args .tape .now))
@@ -52,9 +52,9 @@ loop-again c =
       omega arith,
       ⊎-elim
           (λ w. w .3 ∙ w .2 .ensures ∙ fault-more
-          (λ (j : ℕ). openAt (args .text .now) (args .tape .now) (args .btext .now) (args .table .now) (args .k) (args .m) j) (args .tape .now) (loop .i)
+          (λ (j : ℕ). openAt (args .text .now) (args .tape .now) (args .btext .now) (args .table .now) (args .lines) j) (args .tape .now) (loop .i)
           (loop .inv .1) (sym (open-at .ensures) ∙ w .0 .taken))
-          (λ w. w .1 ∙ fault-same (λ (j : ℕ). openAt (args .text .now) (args .tape .now) (args .btext .now) (args .table .now) (args .k) (args .m) j)
+          (λ w. w .1 ∙ fault-same (λ (j : ℕ). openAt (args .text .now) (args .tape .now) (args .btext .now) (args .table .now) (args .lines) j)
           (args .tape .now) (loop .i) (loop .inv .1) (sym (open-at .ensures) ∙ w .0 .left))
           (c .if1 .came),
     )
@@ -65,7 +65,7 @@ returns c =
     let loop = c .before .loop in
     let e : loop .i ≡ args .many = omega arith in
     loop .inv .1 ∙ ap
-    (λ (i : ℕ). placeTold (earliest (opensAt (args .text .now) (args .tape .now) (args .btext .now) (args .table .now) (args .k) (args .m) i))) e
+    (λ (i : ℕ). placeTold (earliest (opensAt (args .text .now) (args .tape .now) (args .btext .now) (args .table .now) (args .lines) i))) e
 
 pub walk-spec : {M : Type 1} → statement M
 walk-spec =

@@ -1,4 +1,4 @@
--- `bindings::lines` meets its contract: the lines that are left, read from here, give what all give. Assumes nothing.
+-- `bindings::each_line` meets its contract: the lines that are left, read from here, give what all give. Assumes nothing.
 use borrow.Author.Needs.{needs}
 use native.Mathlib.Omega.{arith}
 use mathlib.Core.Path.{_≡_, refl, sym, ap, _∙_}
@@ -9,8 +9,8 @@ use Rattle.language.specs.Bindings.{lines}
 use Rattle.bindings.specs.Steps.{linesTold, count}
 use Rattle.binding_numbers.proofs.Numbers.{went-in, lost-in}
 use Rattle.bindings.proofs.Rows.{Upto, upto-start, upto-next, upto-lost, upto-done, line-went, line-lost, named-none, named-as, named-went}
-use Rattle.bindings.proofs.lines.Statement.{statement}
-use Rattle.bindings.proofs.lines.Tie as tie
+use Rattle.bindings.proofs.each_line.Statement.{statement}
+use Rattle.bindings.proofs.each_line.Tie as tie
 
 abbrev Inv-loop : tie.InvT-loop
 Inv-loop text table₀ k from most at₀ i₀ table at i = (length table ≡ length table₀) × Upto text most k (lines (length text) most k [] (drop from text)) table at i
@@ -85,7 +85,7 @@ returns-2 : tie.Need-returns-2 Inv-loop μ-loop
 unfolding linesTold
 returns-2 c = let e : c .before .loop .i ≡ c .before .before .before .before .args .k = omega arith in record { reads = record { tells = upto-done (c .before .loop .inv .1) e; inside = c .before .loop .inv .1 .inside; small = c .before .before .before .before .pre .1 .0 }; named = named-as e (c .before .loop .inv .1 .named) }
 
-pub lines-spec : {M : Type 1} → statement M
-lines-spec =
+pub each-line-spec : {M : Type 1} → statement M
+each-line-spec =
     tie.close (tie.spec Inv-loop μ-loop loop-holds line-requires enum-known-p same-length returns enum-known-next add-i loop-less loop-again
     same-length-2 returns-2)
