@@ -99,22 +99,22 @@ kept-most Clear n = omega arith
 -- ---- the wanted widths
 
 module _ (e : Env) (n : ℕ) where
-  pub bound-nodes : (p j : ℕ) → j ≡ 0 + index (namesOn (e .btext) (e .table) 0 (e .k - 0)) (nameFrom (e .text) p) → j < e .k → numberNode (getD (e .table) (3 * j + 2) 0) ∷ [] ≡ portNodes e n p
+  pub bound-nodes : (p j : ℕ) → j ≡ 0 + index (namesOn (e .btext) (e .table) 0 (e .lines .widths - 0)) (nameFrom (e .text) p) → j < e .lines .widths → numberNode (getD (e .table) (3 * j + 2) 0) ∷ [] ≡ portNodes e n p
   unfolding portNodes
   bound-nodes p j q h =
-      let i = index (namesOn (e .btext) (e .table) 0 (e .k)) (nameFrom (e .text) p) in
-      let k : e .k - 0 ≡ e .k = omega arith in
+      let i = index (namesOn (e .btext) (e .table) 0 (e .lines .widths)) (nameFrom (e .text) p) in
+      let k : e .lines .widths - 0 ≡ e .lines .widths = omega arith in
       let w = ap (λ (m : ℕ). index (namesOn (e .btext) (e .table) 0 m) (nameFrom (e .text) p)) k in
       let z : j ≡ i = omega arith in
-      ap (λ (m : ℕ). numberNode (getD (e .table) (3 * m + 2) 0) ∷ []) z ∙ sym (ap (λ (b : Bool). elim b as (λ (x : Bool). List ℕ) [ true ↦ numberNode (getD (e .table) (3 * i + 2) 0) ∷ [] | false ↦ someNodes (soughtIn e (PortAt p) [] (take n (e .tape))) ]) (lt-ltb i (e .k) (omega arith)))
+      ap (λ (m : ℕ). numberNode (getD (e .table) (3 * m + 2) 0) ∷ []) z ∙ sym (ap (λ (b : Bool). elim b as (λ (x : Bool). List ℕ) [ true ↦ numberNode (getD (e .table) (3 * i + 2) 0) ∷ [] | false ↦ someNodes (soughtIn e (PortAt p) [] (take n (e .tape))) ]) (lt-ltb i (e .lines .widths) (omega arith)))
 
-  pub typed-nodes : (p j : ℕ) → j ≡ 0 + index (namesOn (e .btext) (e .table) 0 (e .k - 0)) (nameFrom (e .text) p) → e .k ≤ j → someNodes (soughtIn e (PortAt p) [] (take n (e .tape))) ≡ portNodes e n p
+  pub typed-nodes : (p j : ℕ) → j ≡ 0 + index (namesOn (e .btext) (e .table) 0 (e .lines .widths - 0)) (nameFrom (e .text) p) → e .lines .widths ≤ j → someNodes (soughtIn e (PortAt p) [] (take n (e .tape))) ≡ portNodes e n p
   unfolding portNodes
   typed-nodes p j q h =
-      let i = index (namesOn (e .btext) (e .table) 0 (e .k)) (nameFrom (e .text) p) in
-      let k : e .k - 0 ≡ e .k = omega arith in
+      let i = index (namesOn (e .btext) (e .table) 0 (e .lines .widths)) (nameFrom (e .text) p) in
+      let k : e .lines .widths - 0 ≡ e .lines .widths = omega arith in
       let w = ap (λ (m : ℕ). index (namesOn (e .btext) (e .table) 0 m) (nameFrom (e .text) p)) k in
-      sym (ap (λ (b : Bool). elim b as (λ (x : Bool). List ℕ) [ true ↦ numberNode (getD (e .table) (3 * i + 2) 0) ∷ [] | false ↦ someNodes (soughtIn e (PortAt p) [] (take n (e .tape))) ]) (le-ltb i (e .k) (omega arith)))
+      sym (ap (λ (b : Bool). elim b as (λ (x : Bool). List ℕ) [ true ↦ numberNode (getD (e .table) (3 * i + 2) 0) ∷ [] | false ↦ someNodes (soughtIn e (PortAt p) [] (take n (e .tape))) ]) (le-ltb i (e .lines .widths) (omega arith)))
 
   pub port-nodes : (i : ℕ) → i < e .ports → {p : ℕ} → p ≡ placeAt (e .tape) (i + 1) → portNodes e n p ≡ wantNodes e n i
   unfolding wantNodes

@@ -1,6 +1,7 @@
 // The types of an actor in code, each node after its operands, as `typing` reads them.
 // What comes in: the tape, with the texts and the bindings' table for its names.
 // What goes out: the nodes of each wanted width, in a slot of its own.
+use bindings::Lines;
 use language::Type;
 use row09_bindings::found;
 use tape::wide;
@@ -16,6 +17,7 @@ ghost use mathlib.Core.List.{[], _∷_, _++_};
 ghost use Prim.Native.Nat.{_+_, _-_, _*_, _/_, _≤_, _<_};
 ghost use lib.ListN.{length, take, drop};
 ghost use Rattle.language.specs.Limits.{limits};
+ghost use Rattle.bindings.specs.Table.{Lined};
 ghost use Rattle.type_nodes.specs.Codes.{env, numberNode, nodeAt, capped, grownOf, soughtIn, someNodes, portNodes, wantNodes, Filled};
 
 const WORDS: usize = Type::WORDS as usize;
@@ -39,17 +41,16 @@ fn type_code(
     n: usize,
     btext: &[u8],
     table: &[u32],
-    k: usize,
-    m: usize,
+    lines: Lines,
     ports: usize,
     goal: Goal,
     code: &mut [u32],
     at: usize,
 ) -> usize
-    requires { ⌜ (n ≤ length (now tape)) × (3 * ports + 3 ≤ length (now tape)) × (3 * (k + m) ≤ length (now table)) × (ports ≤ limits .ports) ⌝ }
+    requires { ⌜ (n ≤ length (now tape)) × (3 * ports + 3 ≤ length (now tape)) × Lined lines (now table) × (ports ≤ limits .ports) ⌝ }
     requires { ⌜ at + limits .typeWords ≤ length (now code) ⌝ }
-    ensures { λ r. ⌜ Filled (now (code .entry)) (now (code .exit)) at r
-        (soughtIn (env (now (text .entry)) (now (tape .entry)) (now (btext .entry)) (now (table .entry)) k m ports) goal [] (take n (now (tape .entry)))) ⌝ }
+    ensures { λ r. let e = env (now (text .entry)) (now (tape .entry)) (now (btext .entry)) (now (table .entry)) lines ports in
+        ⌜ Filled (now (code .entry)) (now (code .exit)) at r (soughtIn e goal [] (take n (now (tape .entry)))) ⌝ }
 {
     let mut g = goal;
     let mut len = 0;
@@ -64,8 +65,7 @@ fn type_code(
             tape,
             btext,
             table,
-            k,
-            m,
+            lines,
             ports,
             i,
             role,
@@ -85,8 +85,7 @@ fn grown(
     tape: &[u32],
     btext: &[u8],
     table: &[u32],
-    k: usize,
-    m: usize,
+    lines: Lines,
     ports: usize,
     i: usize,
     role: Role,
@@ -94,17 +93,17 @@ fn grown(
     at: usize,
     len: usize,
 ) -> usize
-    requires { ⌜ (3 * i + 2 < length (now tape)) × (3 * ports + 3 ≤ length (now tape)) × (3 * (k + m) ≤ length (now table)) × (ports ≤ limits .ports) ⌝ }
+    requires { ⌜ (3 * i + 2 < length (now tape)) × (3 * ports + 3 ≤ length (now tape)) × Lined lines (now table) × (ports ≤ limits .ports) ⌝ }
     requires { ⌜ (len ≤ limits .typeWords) × (at + limits .typeWords ≤ length (now code)) ⌝ }
-    ensures { λ r. ⌜ Filled (now (code .entry)) (now (code .exit)) at r
-        (grownOf role (take len (drop at (now (code .entry)))) (nodeAt (env (now (text .entry)) (now (tape .entry)) (now (btext .entry)) (now (table .entry)) k m ports) (now (tape .entry)) i)) ⌝ }
+    ensures { λ r. let e = env (now (text .entry)) (now (tape .entry)) (now (btext .entry)) (now (table .entry)) lines ports in
+        ⌜ Filled (now (code .entry)) (now (code .exit)) at r (grownOf role (take len (drop at (now (code .entry)))) (nodeAt e (now (tape .entry)) i)) ⌝ }
 {
     match role {
         Role::Node => append(
             code,
             at,
             len,
-            node(text, tape, btext, table, k, m, ports, i),
+            node(text, tape, btext, table, lines, ports, i),
         ),
         Role::Keep => len,
         _ => 0,
@@ -137,19 +136,20 @@ fn port_code(
     n: usize,
     btext: &[u8],
     table: &[u32],
-    k: usize,
-    m: usize,
+    lines: Lines,
     ports: usize,
     place: usize,
     code: &mut [u32],
     at: usize,
 ) -> usize
-    requires { ⌜ (n ≤ length (now tape)) × (3 * ports + 3 ≤ length (now tape)) × (3 * (k + m) ≤ length (now table)) × (ports ≤ limits .ports) ⌝ }
+    requires { ⌜ (n ≤ length (now tape)) × (3 * ports + 3 ≤ length (now tape)) × Lined lines (now table) × (ports ≤ limits .ports) ⌝ }
     requires { ⌜ at + limits .typeWords ≤ length (now code) ⌝ }
-    ensures { λ r. ⌜ Filled (now (code .entry)) (now (code .exit)) at r (portNodes (env (now (text .entry)) (now (tape .entry)) (now (btext .entry)) (now (table .entry)) k m ports) n place) ⌝ }
+    ensures { λ r. let e = env (now (text .entry)) (now (tape .entry)) (now (btext .entry)) (now (table .entry)) lines ports in
+        ⌜ Filled (now (code .entry)) (now (code .exit)) at r (portNodes e n place) ⌝ }
 {
-    let j = found(text, place, btext, table, 0, k);
-    if j < k {
+    let widths = lines.widths;
+    let j = found(text, place, btext, table, 0, widths);
+    if j < widths {
         return single(code, at, table[3 * j + 2]);
     }
     let len = type_code(
@@ -158,8 +158,7 @@ fn port_code(
         n,
         btext,
         table,
-        k,
-        m,
+        lines,
         ports,
         Goal::Port(place),
         code,
@@ -175,21 +174,20 @@ pub fn want_code(
     n: usize,
     btext: &[u8],
     table: &[u32],
-    k: usize,
-    m: usize,
+    lines: Lines,
     ports: usize,
     i: usize,
     code: &mut [u32],
 ) -> usize
-    requires { ⌜ (n ≤ length (now tape)) × (3 * ports + 3 ≤ length (now tape)) × (3 * (k + m) ≤ length (now table)) × (ports ≤ limits .ports) ⌝ }
+    requires { ⌜ (n ≤ length (now tape)) × (3 * ports + 3 ≤ length (now tape)) × Lined lines (now table) × (ports ≤ limits .ports) ⌝ }
     requires { ⌜ limits .typeWords * i + limits .typeWords ≤ length (now code) ⌝ }
-    ensures { λ r. ⌜ Filled (now (code .entry)) (now (code .exit)) (limits .typeWords * i) r
-        (wantNodes (env (now (text .entry)) (now (tape .entry)) (now (btext .entry)) (now (table .entry)) k m ports) n i) ⌝ }
+    ensures { λ r. let e = env (now (text .entry)) (now (tape .entry)) (now (btext .entry)) (now (table .entry)) lines ports in
+        ⌜ Filled (now (code .entry)) (now (code .exit)) (limits .typeWords * i) r (wantNodes e n i) ⌝ }
 {
     let at = WORDS * i;
     if i < ports {
         let place = wide(tape[3 * (i + 1) + 1]);
-        return port_code(text, tape, n, btext, table, k, m, ports, place, code, at);
+        return port_code(text, tape, n, btext, table, lines, ports, place, code, at);
     }
     let len = type_code(
         text,
@@ -197,8 +195,7 @@ pub fn want_code(
         n,
         btext,
         table,
-        k,
-        m,
+        lines,
         ports,
         Goal::Memory(i - ports),
         code,

@@ -226,11 +226,11 @@ module _ (e : Env) (o p v : ℕ) where
   unfolding nodeOf
   node-number h q = q ∙ rw h
 
-  pub node-value : o ≡ 2 → {r x f c : ℕ} → c ≡ p → r ≡ numberNode x → x ≡ valueOr (e .table) f (e .k + e .m) → f ≡ e .k + index (namesOn (e .btext) (e .table) (e .k) (e .k + e .m - e .k)) (nameFrom (e .text) c) → r ≡ nodeOf e o p v
+  pub node-value : o ≡ 2 → {r x f c : ℕ} → c ≡ p → r ≡ numberNode x → x ≡ valueOr (e .table) f (e .lines .widths + e .lines .values) → f ≡ e .lines .widths + index (namesOn (e .btext) (e .table) (e .lines .widths) (e .lines .widths + e .lines .values - e .lines .widths)) (nameFrom (e .text) c) → r ≡ nodeOf e o p v
   unfolding nodeOf valueOf
   node-value h {c = c} y q u w =
-      let z : e .k + e .m - e .k ≡ e .m = omega arith in
-      q ∙ ap numberNode (u ∙ ap (λ (j : ℕ). valueOr (e .table) j (e .k + e .m)) (w ∙ ap₂ (λ (n d : ℕ). e .k + index (namesOn (e .btext) (e .table) (e .k) n) (nameFrom (e .text) d)) z y)) ∙ rw h
+      let z : e .lines .widths + e .lines .values - e .lines .widths ≡ e .lines .values = omega arith in
+      q ∙ ap numberNode (u ∙ ap (λ (j : ℕ). valueOr (e .table) j (e .lines .widths + e .lines .values)) (w ∙ ap₂ (λ (n d : ℕ). e .lines .widths + index (namesOn (e .btext) (e .table) (e .lines .widths) n) (nameFrom (e .text) d)) z y)) ∙ rw h
 
   pub node-port : o ≡ 3 → {i c : ℕ} → c ≡ p → i ≡ index (signedNames (e .text) (e .tape) 1 (e .ports)) (nameFrom (e .text) c) → i * 8 + 1 ≡ nodeOf e o p v
   unfolding nodeOf portOf

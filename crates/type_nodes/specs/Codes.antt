@@ -10,6 +10,7 @@ use Rattle.language.specs.Text.{same, index}
 use Rattle.placed.specs.Placed.{nameFrom}
 use Rattle.tape.specs.Tape.{NUMBER, ENVIRONMENT, PORT, PLUS, MINUS, LOG, CEIL, FLOOR, MOST, ENTRY, WITHIN, OR, DECLARED, MEMORY, SIZE, SIGNED}
 use Rattle.tape.specs.Walk.{opAt, placeAt, valueAt}
+use Rattle.bindings.specs.declared.Lines.{Lines}
 use Rattle.row09_bindings.specs.Lines.{namesOn}
 use Rattle.type_nodes.specs.declared.Role.{Role}
 use Rattle.type_nodes.specs.declared.Role.the-variants.{Node, Keep, Signed, Declared, Memory, Over, Clear}
@@ -97,12 +98,11 @@ pub record Env : Type 0 where
   pub tape : List ℕ
   pub btext : List ℕ
   pub table : List ℕ
-  pub k : ℕ
-  pub m : ℕ
+  pub lines : Lines
   pub ports : ℕ
 
-abbrev pub env : (text t btext table : List ℕ) → (k m ports : ℕ) → Env
-env text t btext table k m ports = record { text = text; tape = t; btext = btext; table = table; k = k; m = m; ports = ports }
+abbrev pub env : (text t btext table : List ℕ) → Lines → (ports : ℕ) → Env
+env text t btext table lines ports = record { text = text; tape = t; btext = btext; table = table; lines = lines; ports = ports }
 
 -- the names of m items from one on
 unfoldable pub signedNames : (text t : List ℕ) → ℕ → ℕ → List (List ℕ)
@@ -117,7 +117,7 @@ unfoldable pub valueOr : List ℕ → ℕ → ℕ → ℕ
 valueOr table i end = elim (ltb i end) [ true ↦ getD table (3 * i + 2) 0 | false ↦ 0 ]
 
 unfoldable pub valueOf : Env → List ℕ → ℕ
-valueOf e s = valueOr (e .table) (e .k + index (namesOn (e .btext) (e .table) (e .k) (e .m)) s) (e .k + e .m)
+valueOf e s = valueOr (e .table) (e .lines .widths + index (namesOn (e .btext) (e .table) (e .lines .widths) (e .lines .values)) s) (e .lines .widths + e .lines .values)
 
 -- ---- nodes
 
@@ -209,8 +209,8 @@ someNodes (x ∷ l) = x ∷ l
 
 unfoldable pub portNodes : Env → ℕ → ℕ → List ℕ
 portNodes e n p =
-    elim (ltb (index (namesOn (e .btext) (e .table) 0 (e .k)) (nameFrom (e .text) p)) (e .k)) [
-      | true ↦ numberNode (getD (e .table) (3 * index (namesOn (e .btext) (e .table) 0 (e .k)) (nameFrom (e .text) p) + 2) 0) ∷ []
+    elim (ltb (index (namesOn (e .btext) (e .table) 0 (e .lines .widths)) (nameFrom (e .text) p)) (e .lines .widths)) [
+      | true ↦ numberNode (getD (e .table) (3 * index (namesOn (e .btext) (e .table) 0 (e .lines .widths)) (nameFrom (e .text) p) + 2) 0) ∷ []
       | false ↦ someNodes (soughtIn e (PortAt p) [] (take n (e .tape)))
     ]
 

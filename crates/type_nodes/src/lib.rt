@@ -1,6 +1,7 @@
 // What an item of the tape is to the declared types, and the node of a type that it stands for.
 // What comes in: the tape, with the texts and the bindings' table for its names. What goes out: an item's role and node,
 // how many ports and memories are declared, and where the type that is sought ends.
+use bindings::Lines;
 use language::Type;
 use row09_bindings::found;
 use tape::CEIL;
@@ -26,6 +27,7 @@ ghost use lib.ListN.{length, take};
 ghost use Rattle.language.specs.Limits.{limits};
 ghost use Rattle.language.specs.Text.{index};
 ghost use Rattle.placed.specs.Placed.{nameFrom};
+ghost use Rattle.bindings.specs.Table.{Lined};
 ghost use Rattle.type_nodes.specs.Codes.{roleOf, isOver, tally, countedOf, countsOver, env, signedNames, valueOr, numberNode, nodeAt, stopsAt, leftOf, keptOf};
 
 // What an item is to the declared types.
@@ -160,21 +162,22 @@ pub fn node(
     tape: &[u32],
     btext: &[u8],
     table: &[u32],
-    k: usize,
-    m: usize,
+    lines: Lines,
     ports: usize,
     i: usize,
 ) -> u32
-    requires { ⌜ (3 * i + 2 < length (now tape)) × (3 * ports + 3 ≤ length (now tape)) × (3 * (k + m) ≤ length (now table)) × (ports ≤ limits .ports) ⌝ }
-    ensures { λ r. ⌜ r ≡ nodeAt (env (now (text .entry)) (now (tape .entry)) (now (btext .entry)) (now (table .entry)) k m ports) (now (tape .entry)) i ⌝ }
+    requires { ⌜ (3 * i + 2 < length (now tape)) × (3 * ports + 3 ≤ length (now tape)) × Lined lines (now table) × (ports ≤ limits .ports) ⌝ }
+    ensures { λ r. ⌜ r ≡ nodeAt (env (now (text .entry)) (now (tape .entry)) (now (btext .entry)) (now (table .entry)) lines ports) (now (tape .entry)) i ⌝ }
 {
     let place = wide(tape[3 * i + 1]);
+    let widths = lines.widths;
+    let end = widths + lines.values;
     match tape[3 * i] {
         NUMBER => number_node(tape[3 * i + 2]),
         ENVIRONMENT => number_node(value_at(
             table,
-            found(text, place, btext, table, k, k + m),
-            k + m,
+            found(text, place, btext, table, widths, end),
+            end,
         )),
         PORT => port_index(text, tape, ports, place) as u32 * 8 + 1,
         LOG => 2,

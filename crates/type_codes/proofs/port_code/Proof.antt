@@ -33,7 +33,7 @@ returns c =
     let found = c .before .before .before .before .before .before .found in
     let if1 = c .before .before .before .before .before .if1 in
     filled-as
-    (bound-nodes (env (args .text .now) (args .tape .now) (args .btext .now) (args .table .now) (args .k) (args .m) (args .ports)) (args .n)
+    (bound-nodes (env (args .text .now) (args .tape .now) (args .btext .now) (args .table .now) (args .lines) (args .ports)) (args .n)
     (args .place) _ (found .ensures) (if1 .taken))
     (c .before .before .single .ensures)
 
@@ -52,7 +52,7 @@ returns-2 c =
     let found = c .before .before .before .before .before .before .before .before .before .found in
     let type-code = c .before .before .before .before .before .before .type-code in
     filled-some (type-code .ensures) (c .before .before .some .ensures)
-    (typed-nodes (env (args .text .now) (args .tape .now) (args .btext .now) (args .table .now) (args .k) (args .m) (args .ports)) (args .n)
+    (typed-nodes (env (args .text .now) (args .tape .now) (args .btext .now) (args .table .now) (args .lines) (args .ports)) (args .n)
     (args .place) _ (found .ensures) (omega arith))
 
 pub port-code-spec : {M : Type 1} → statement M

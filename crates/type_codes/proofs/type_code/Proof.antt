@@ -12,10 +12,10 @@ use Rattle.type_codes.proofs.type_code.Statement.{statement}
 use Rattle.type_codes.proofs.type_code.Tie as tie
 
 abbrev Inv-loop : tie.InvT-loop
-Inv-loop text tape n btext table k m ports code₀ at g₀ len₀ i₀ code g len i = (i ≤ n / 3) × (len ≤ 64) × (length code ≡ length code₀) × (take at code ≡ take at code₀) × (soughtIn (env text tape btext table k m ports) g (take len (drop at code)) (drop (3 * i) (take n tape)) ≡ soughtIn (env text tape btext table k m ports) g₀ [] (take n tape))
+Inv-loop text tape n btext table lines ports code₀ at g₀ len₀ i₀ code g len i = (i ≤ n / 3) × (len ≤ 64) × (length code ≡ length code₀) × (take at code ≡ take at code₀) × (soughtIn (env text tape btext table lines ports) g (take len (drop at code)) (drop (3 * i) (take n tape)) ≡ soughtIn (env text tape btext table lines ports) g₀ [] (take n tape))
 
 abbrev μ-loop : tie.MeasureT-loop
-μ-loop text tape n btext table k m ports code₀ at g₀ len₀ i₀ code g len i = n / 3 - i
+μ-loop text tape n btext table lines ports code₀ at g₀ len₀ i₀ code g len i = n / 3 - i
 
 loop-holds : tie.Need-loop-holds Inv-loop μ-loop
 loop-holds c = (omega arith, omega arith, refl, refl, refl)
@@ -69,7 +69,7 @@ returns c =
       is = ap
           (λ (j : ℕ). take j (drop (args .at) (loop .code))) (c .kept .ensures) ∙ kept-take (role-of .result) (loop .len) (drop (args .at) (loop .code)) ∙
           search-stop (args .tape .now) (args .n) (loop .i) (pre .0 .0)
-          (env (args .text .now) (args .tape .now) (args .btext .now) (args .table .now) (args .k) (args .m) (args .ports)) (loop .g)
+          (env (args .text .now) (args .tape .now) (args .btext .now) (args .table .now) (args .lines) (args .ports)) (loop .g)
           (take (loop .len) (drop (args .at) (loop .code))) (loop-test .taken) (role-of .ensures) (wide .ensures)
           (sym (c .before .before .stops .ensures) ∙ c .before .if1 .taken) ∙ loop .inv .4;
       before = loop .inv .3;
@@ -104,7 +104,7 @@ loop-again c =
       grown .ensures .long ∙ loop .inv .2,
       grown .ensures .before ∙ loop .inv .3,
       search-more (args .tape .now)
-          (args .n) (loop .i) (pre .0 .0) (env (args .text .now) (args .tape .now) (args .btext .now) (args .table .now) (args .k) (args .m) (args .ports))
+          (args .n) (loop .i) (pre .0 .0) (env (args .text .now) (args .tape .now) (args .btext .now) (args .table .now) (args .lines) (args .ports))
           (loop .g) (take (loop .len) (drop (args .at) (loop .code))) (loop-test .taken) (role-of .ensures) (wide .ensures)
           (sym (stops .ensures) ∙ if1 .left) (c .left .ensures) (grown .ensures .is) ∙ loop .inv .4,
     )
@@ -120,7 +120,7 @@ returns-2 c =
     record {
       few = omega arith;
       is = search-end (args .tape .now) (args .n) (loop .i) (pre .0 .0)
-          (env (args .text .now) (args .tape .now) (args .btext .now) (args .table .now) (args .k) (args .m) (args .ports)) (loop .g)
+          (env (args .text .now) (args .tape .now) (args .btext .now) (args .table .now) (args .lines) (args .ports)) (loop .g)
           (take (loop .len) (drop (args .at) (loop .code))) (omega arith) ∙ loop .inv .4;
       before = loop .inv .3;
       long = loop .inv .2;

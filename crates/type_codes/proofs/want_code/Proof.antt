@@ -39,7 +39,7 @@ returns c =
     let if1 = c .before .before .before .before .before .before .if1 in
     let wide = c .before .before .before .before .wide in
     filled-as
-    (port-nodes (env (args .text .now) (args .tape .now) (args .btext .now) (args .table .now) (args .k) (args .m) (args .ports)) (args .n) (args .i)
+    (port-nodes (env (args .text .now) (args .tape .now) (args .btext .now) (args .table .now) (args .lines) (args .ports)) (args .n) (args .i)
     (if1 .taken) (wide .ensures))
     (c .before .before .port-code .ensures)
 
@@ -57,7 +57,7 @@ returns-2 c =
     let args = c .before .before .before .before .before .before .before .before .before .before .before .before .before .before .args in
     let type-code = c .before .before .before .before .before .before .type-code in
     filled-some (type-code .ensures) (c .before .before .some .ensures)
-    (memory-nodes (env (args .text .now) (args .tape .now) (args .btext .now) (args .table .now) (args .k) (args .m) (args .ports)) (args .n)
+    (memory-nodes (env (args .text .now) (args .tape .now) (args .btext .now) (args .table .now) (args .lines) (args .ports)) (args .n)
     (args .i) (omega arith))
 
 pub want-code-spec : {M : Type 1} → statement M

@@ -24,6 +24,9 @@ shared-slice-read-wide c = search needs
 wide-requires : tie.Need-wide-requires
 wide-requires c κs = search needs
 
+add-end : tie.Need-add-end
+add-end c = search needs
+
 mul-match : tie.Need-mul-match
 mul-match c = search needs
 
@@ -48,14 +51,8 @@ shared-slice-read-number-node c = search needs
 number-node-requires : tie.Need-number-node-requires
 number-node-requires c κs = search needs
 
-add-found : tie.Need-add-found
-add-found c = search needs
-
 found-requires : tie.Need-found-requires
 found-requires c κs = search needs
-
-add-value-at : tie.Need-add-value-at
-add-value-at c = search needs
 
 value-at-requires : tie.Need-value-at-requires
 value-at-requires c κs = search needs
@@ -77,25 +74,25 @@ add-result c = omega (arith, c .port-index .ensures .1)
 
 returns : tie.Need-returns
 returns c =
-    let args = c .before .before .before .before .before .before .before .before .before .before .args in
-    node-number (env (args .text .now) (args .tape .now) (args .btext .now) (args .table .now) (args .k) (args .m) (args .ports))
+    let args = c .before .before .before .before .before .before .before .before .before .before .before .args in
+    node-number (env (args .text .now) (args .tape .now) (args .btext .now) (args .table .now) (args .lines) (args .ports))
     (opAt (args .tape .now) (args .i)) (placeAt (args .tape .now) (args .i)) (valueAt (args .tape .now) (args .i)) (c .before .before .match .keys1)
     (c .number-node .ensures)
 
 returns-2 : tie.Need-returns-2
 returns-2 c =
-    let args = c .before .before .before .before .before .before .before .before .before .before .before .args in
-    let wide = c .before .before .before .before .before .wide in
+    let args = c .before .before .before .before .before .before .before .before .before .before .before .before .args in
+    let wide = c .before .before .before .before .before .before .wide in
     let match = c .before .before .before .match in
-    node-value (env (args .text .now) (args .tape .now) (args .btext .now) (args .table .now) (args .k) (args .m) (args .ports))
+    node-value (env (args .text .now) (args .tape .now) (args .btext .now) (args .table .now) (args .lines) (args .ports))
     (opAt (args .tape .now) (args .i)) (placeAt (args .tape .now) (args .i)) (valueAt (args .tape .now) (args .i)) (match .keys2) (wide .ensures)
     (c .number-node2 .ensures) (c .before .value-at .ensures) (c .before .before .found .ensures)
 
 returns-3 : tie.Need-returns-3
 returns-3 c =
-    let args = c .before .before .before .before .before .before .before .before .before .args in
-    let wide = c .before .before .before .wide in
-    node-port (env (args .text .now) (args .tape .now) (args .btext .now) (args .table .now) (args .k) (args .m) (args .ports))
+    let args = c .before .before .before .before .before .before .before .before .before .before .args in
+    let wide = c .before .before .before .before .wide in
+    node-port (env (args .text .now) (args .tape .now) (args .btext .now) (args .table .now) (args .lines) (args .ports))
     (opAt (args .tape .now) (args .i)) (placeAt (args .tape .now) (args .i)) (valueAt (args .tape .now) (args .i)) (c .before .match .keys3)
     (wide .ensures) (c .port-index .ensures .0)
 
@@ -125,7 +122,7 @@ returns-9 c = sym (simp (nodeOf, ne-eqb _ _ (c .match .rest .0 .0 .0 .0 .0 .0 .0
 
 pub node-spec : {M : Type 1} → statement M
 node-spec =
-    tie.close (tie.spec mul-wide add-wide mul-wide-2 shared-slice-read-wide wide-requires mul-match mul-match-2 shared-slice-read-match
-    mul-number-node add-number-node mul-number-node-2 shared-slice-read-number-node number-node-requires add-found found-requires add-value-at
-    value-at-requires number-node-requires-2 port-index-requires cast-result mul-result add-result returns returns-2 returns-3 returns-4 returns-5
-    returns-6 returns-7 returns-8 returns-9)
+    tie.close (tie.spec mul-wide add-wide mul-wide-2 shared-slice-read-wide wide-requires add-end mul-match mul-match-2 shared-slice-read-match
+    mul-number-node add-number-node mul-number-node-2 shared-slice-read-number-node number-node-requires found-requires value-at-requires
+    number-node-requires-2 port-index-requires cast-result mul-result add-result returns returns-2 returns-3 returns-4 returns-5 returns-6 returns-7
+    returns-8 returns-9)
