@@ -17,6 +17,7 @@ use Rattle.language.specs.Counts.{typeWords, tooMany, limitFaults}
 use Rattle.language.specs.Bindings.{Binding, Bindings}
 use Rattle.language.specs.Widths.{Want, exactly, typeWant, declaredType, portWant, wants, boundNames, valueIn, Least}
 use Rattle.bindings.proofs.Ranges.{ranged}
+use Rattle.bindings.specs.declared.Lines.{Lines}
 use Rattle.row09_bindings.proofs.Tables.{names-are, widths-on, values-on}
 use Rattle.placed.specs.Placed.{nameFrom, Every, PlacedActor}
 use Rattle.placed.proofs.Placed.{placed}
@@ -109,9 +110,9 @@ pub record Laid (a : Actor) (b : Bindings) (cells starts ends : List ℕ) (all :
   pub yes : (xs before : List ℕ) {g : Bool} → g ≡ true → Answer g (termsOf a b) xs → Settles a b (Widths all) before (xs ++ drop all before)
   pub no : (xs before : List ℕ) {g : Bool} → g ≡ false → Answer g (termsOf a b) xs → Settles a b Nothing before (xs ++ drop all before)
 
-module _ (text t : List ℕ) (n : ℕ) (btext table : List ℕ) (k m : ℕ) {ws : List Word} {a : Actor} {b : Bindings} (low : n ≤ length t) (h : Asked text t n btext table k m ws a b) where
+module _ (text t : List ℕ) (n : ℕ) (btext table : List ℕ) (lines : Lines) {ws : List Word} {a : Actor} {b : Bindings} (low : n ≤ length t) (h : Asked text t n btext table lines ws a b) where
   abbrev e : Env
-  e = env text t btext table k m (length (a .signature))
+  e = env text t btext table lines (length (a .signature))
 
   stands : PlacedActor text a
   stands = placed (h .tells .lexed) (h .tells .parses)
@@ -125,7 +126,7 @@ module _ (text t : List ℕ) (n : ℕ) (btext table : List ℕ) (k m : ℕ) {ws 
 
   values : (s : List ℕ) → valueOf e s ≡ valueIn (b .values) s
   unfolding valueOf
-  values s = sym (found-value btext table s m k) ∙ ap (λ (l : List Binding). valueIn l s) (values-on (h .binds))
+  values s = sym (found-value btext table s (lines .values) (lines .widths)) ∙ ap (λ (l : List Binding). valueIn l s) (values-on (h .binds))
 
   low-widths : (s : List ℕ) → valueIn (b .widths) s ≤ 65535
   low-widths s = let z = ranged btext (h .binds .reads) .widths s in omega arith
@@ -147,28 +148,28 @@ module _ (text t : List ℕ) (n : ℕ) (btext table : List ℕ) (k m : ℕ) {ws 
   name-of : (i : ℕ) → i < length (a .signature) → getD (spelledOf (a .signature)) i [] ≡ nameFrom text (placeAt t (i + 1))
   name-of i q = let z : 1 + i ≡ i + 1 = omega arith in sym (ap (λ (l : List (List ℕ)). getD l i []) signature) ∙ name-at text t (length (a .signature)) 1 i q ∙ ap (λ (j : ℕ). nameFrom text (placeAt t j)) z
 
-  bound-names : namesOn btext table 0 k ≡ spelledOf (boundNames (b .widths))
-  bound-names = names-are btext table 0 k ∙ ap (λ (l : List Binding). spelledOf (boundNames l)) (widths-on (h .binds))
+  bound-names : namesOn btext table 0 (lines .widths) ≡ spelledOf (boundNames (b .widths))
+  bound-names = names-are btext table 0 (lines .widths) ∙ ap (λ (l : List Binding). spelledOf (boundNames l)) (widths-on (h .binds))
 
   module _ (s : List ℕ) where
     abbrev line : ℕ
-    line = index (namesOn btext table 0 k) s
+    line = index (namesOn btext table 0 (lines .widths)) s
 
-    is-bound : ltb line k ≡ among (spelledOf (boundNames (b .widths))) s
-    is-bound = sym (found-among btext table s k 0) ∙ ap (λ (l : List (List ℕ)). among l s) bound-names
+    is-bound : ltb line (lines .widths) ≡ among (spelledOf (boundNames (b .widths))) s
+    is-bound = sym (found-among btext table s (lines .widths) 0) ∙ ap (λ (l : List (List ℕ)). among l s) bound-names
 
-    bound-value : ltb line k ≡ true → getD table (3 * line + 2) 0 ≡ valueIn (b .widths) s
+    bound-value : ltb line (lines .widths) ≡ true → getD table (3 * line + 2) 0 ≡ valueIn (b .widths) s
     unfolding valueOr
     bound-value f =
         let x : 0 + line ≡ line = omega arith in
-        let y : 0 + k ≡ k = omega arith in
-        sym (sym (ap (λ (l : List Binding). valueIn l s) (widths-on (h .binds))) ∙ found-value btext table s k 0 ∙ ap₂ (λ (u v : ℕ). valueOr table u v) x y ∙ ap (λ (q : Bool). elim q as (λ (z : Bool). ℕ) [ true ↦ getD table (3 * line + 2) 0 | false ↦ 0 ]) f)
+        let y : 0 + lines .widths ≡ lines .widths = omega arith in
+        sym (sym (ap (λ (l : List Binding). valueIn l s) (widths-on (h .binds))) ∙ found-value btext table s (lines .widths) 0 ∙ ap₂ (λ (u v : ℕ). valueOr table u v) x y ∙ ap (λ (q : Bool). elim q as (λ (z : Bool). ℕ) [ true ↦ getD table (3 * line + 2) 0 | false ↦ 0 ]) f)
 
     -- a bound width, or the declared type
     abbrev want : Bool → Want
     want x = elim x as (λ (y : Bool). Want) [ true ↦ exactly (valueIn (b .widths) s) | false ↦ typeWant (declaredType (a .ports) s) ]
 
-    want-code : (c : ℕ) (l : List ℕ) → l ≡ nodesD e (declaredType (a .ports) s) → (x : Bool) → ltb line k ≡ x → TypeOf c (termOf a b (want x)) → elim x as (λ (y : Bool). List ℕ) [ true ↦ numberNode (getD table (3 * line + 2) 0) ∷ [] | false ↦ someNodes l ] ≡ code (termOf a b (want x))
+    want-code : (c : ℕ) (l : List ℕ) → l ≡ nodesD e (declaredType (a .ports) s) → (x : Bool) → ltb line (lines .widths) ≡ x → TypeOf c (termOf a b (want x)) → elim x as (λ (y : Bool). List ℕ) [ true ↦ numberNode (getD table (3 * line + 2) 0) ∷ [] | false ↦ someNodes l ] ≡ code (termOf a b (want x))
     unfolding termOf code
     want-code c l f true g r = ap (λ (y : ℕ). y ∷ []) (ap numberNode (bound-value g) ∙ number-node (valueIn (b .widths) s) (low-widths s))
     want-code c l f false g r = ap someNodes f ∙ declared-code (declaredType (a .ports) s) r
@@ -177,7 +178,7 @@ module _ (text t : List ℕ) (n : ℕ) (btext table : List ℕ) (k m : ℕ) {ws 
   unfolding portNodes portWant
   port-code p c r =
       let s = nameFrom text p in
-      want-code s c (soughtIn e (PortAt p) [] (take n t)) (ap (soughtIn e (PortAt p) []) (h .tells .holds) ∙ port-found e a stands p) (ltb (line s) k) refl (subst (λ (x : Bool). TypeOf c (termOf a b (want s x))) (sym (is-bound s)) r) ∙ ap (λ (x : Bool). code (termOf a b (want s x))) (is-bound s)
+      want-code s c (soughtIn e (PortAt p) [] (take n t)) (ap (soughtIn e (PortAt p) []) (h .tells .holds) ∙ port-found e a stands p) (ltb (line s) (lines .widths)) refl (subst (λ (x : Bool). TypeOf c (termOf a b (want s x))) (sym (is-bound s)) r) ∙ ap (λ (x : Bool). code (termOf a b (want s x))) (is-bound s)
 
   pub want-nodes : (i : ℕ) → i < length (wants a b) → wantNodes e n i ≡ code (termOf a b (getD (wants a b) i (exactly 0)))
   unfolding wantNodes wants
@@ -219,9 +220,9 @@ module _ (text t : List ℕ) (n : ℕ) (btext table : List ℕ) (k m : ℕ) {ws 
   unfolding wants
   wants-long = length-append (each (λ (n : Name). portWant a b (n .spelled) ∷ []) (a .signature)) (each (λ (m : Memory). typeWant (m .type) ∷ []) (a .memories)) ∙ ap₂ (λ (x y : ℕ). x + y) (ports-long a b (a .signature)) (memories-long (a .memories))
 
-  module _ (cells starts ends : List ℕ) (ports all : ℕ) (p : ports ≡ length (a .signature)) (q : all ≡ length (a .signature) + length (a .memories)) (s : Slotted (env text t btext table k m ports) n cells starts ends all) (r : 64 * all ≤ length cells) (x : all ≤ length starts) (y : all ≤ length ends) where
+  module _ (cells starts ends : List ℕ) (ports all : ℕ) (p : ports ≡ length (a .signature)) (q : all ≡ length (a .signature) + length (a .memories)) (s : Slotted (env text t btext table lines ports) n cells starts ends all) (r : 64 * all ≤ length cells) (x : all ≤ length starts) (y : all ≤ length ends) where
     slotted : Slotted e n cells starts ends all
-    slotted = subst (λ (j : ℕ). Slotted (env text t btext table k m j) n cells starts ends all) p s
+    slotted = subst (λ (j : ℕ). Slotted (env text t btext table lines j) n cells starts ends all) p s
 
     stand : (i : ℕ) → i < length (wants a b) → TermStands (termOf a b (getD (wants a b) i (exactly 0))) cells (getD (take all starts) i 0) (getD (take all ends) i 0)
     stand i f =
@@ -276,12 +277,12 @@ module _ (text t : List ℕ) (n : ℕ) (btext table : List ℕ) (k m : ℕ) {ws 
           fits = tt;
         }
 
-  pub laid : {c : Counts} → c ≡ countsOver (tally 0 0) (take n t) → (cells starts ends : List ℕ) (i : ℕ) → i ≡ c .ports + c .memories → Slotted (env text t btext table k m (c .ports)) n cells starts ends i → length cells ≡ 1536 → length starts ≡ 24 → length ends ≡ 24 → Laid a b cells starts ends (c .ports + c .memories)
+  pub laid : {c : Counts} → c ≡ countsOver (tally 0 0) (take n t) → (cells starts ends : List ℕ) (i : ℕ) → i ≡ c .ports + c .memories → Slotted (env text t btext table lines (c .ports)) n cells starts ends i → length cells ≡ 1536 → length starts ≡ 24 → length ends ≡ 24 → Laid a b cells starts ends (c .ports + c .memories)
   laid {c} q cells starts ends i z s x y w =
       let p = counted q in
       let f = few-declared q in
       let all = c .ports + c .memories in
-      let s' = subst (λ (j : ℕ). Slotted (env text t btext table k m (c .ports)) n cells starts ends j) z s in
+      let s' = subst (λ (j : ℕ). Slotted (env text t btext table lines (c .ports)) n cells starts ends j) z s in
       let e1 : all ≡ length (a .signature) + length (a .memories) = omega (arith, p .0, p .1) in
       let e2 : 64 * all ≤ length cells = omega (arith, f .0, f .1) in
       let e3 : all ≤ length starts = omega (arith, f .0, f .1) in

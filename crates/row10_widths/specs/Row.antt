@@ -13,6 +13,7 @@ use Rattle.language.specs.Types.{typeFaults}
 use Rattle.language.specs.Bindings.{Bindings}
 use Rattle.language.specs.Widths.{wants, Resolved}
 use Rattle.tape.specs.Row.{Tells}
+use Rattle.bindings.specs.declared.Lines.{Lines}
 use Rattle.row09_bindings.specs.Lines.{Binds}
 use Rattle.row10_widths.specs.declared.Answer.{Answer}
 use Rattle.row10_widths.specs.declared.Answer.the-variants.{Widths, Nothing}
@@ -23,9 +24,9 @@ pub record Passed (ws : List Word) (a : Actor) : Type 0 where
   pub limited : limitFaults ws a ≡ []
   pub typed : each typeFaults (types (actorItems a)) ≡ []
 
-pub record Asked (text t : List ℕ) (n : ℕ) (btext table : List ℕ) (k m : ℕ) (ws : List Word) (a : Actor) (b : Bindings) : Type 0 where
+pub record Asked (text t : List ℕ) (n : ℕ) (btext table : List ℕ) (lines : Lines) (ws : List Word) (a : Actor) (b : Bindings) : Type 0 where
   pub tells : Tells text t n ws a
-  pub binds : Binds btext table k m b
+  pub binds : Binds btext table lines b
   pub passed : Passed ws a
 
 -- the widths, in the first cells
@@ -44,3 +45,8 @@ pub record Settles (a : Actor) (b : Bindings) (r : Answer) (before cells : List 
   pub zeros : r ≡ Nothing → take (length (wants a b)) cells ≡ replicate (length (wants a b)) 0
   pub rest : drop (length (wants a b)) cells ≡ drop (length (wants a b)) before
   pub fits : Fits r cells
+
+-- what is answered, and what the cells hold, settles the widths of the actor and the bindings that tape and table hold
+abbrev pub SolvedTold : (text t : List ℕ) (n : ℕ) (btext table : List ℕ) → Lines → Answer → (before cells : List ℕ) → Type 0
+SolvedTold text t n btext table lines r before cells =
+    (ws : List Word) (a : Actor) (b : Bindings) → Asked text t n btext table lines ws a b → Settles a b r before cells

@@ -12,10 +12,10 @@ use Rattle.row10_widths.proofs.solved.Statement.{statement}
 use Rattle.row10_widths.proofs.solved.Tie as tie
 
 abbrev Inv-loop : tie.InvT-loop
-Inv-loop text tape n btext table k m widths code₀ starts₀ ends₀ ports all i₀ code starts ends i = (i ≤ all) × (all ≤ 24) × (ports ≤ 16) × (3 * ports + 3 ≤ length tape) × (length code ≡ 1536) × (length starts ≡ 24) × (length ends ≡ 24) × Slotted (env text tape btext table k m ports) n code starts ends i
+Inv-loop text tape n btext table lines widths code₀ starts₀ ends₀ ports all i₀ code starts ends i = (i ≤ all) × (all ≤ 24) × (ports ≤ 16) × (3 * ports + 3 ≤ length tape) × (length code ≡ 1536) × (length starts ≡ 24) × (length ends ≡ 24) × Slotted (env text tape btext table lines ports) n code starts ends i
 
 abbrev μ-loop : tie.MeasureT-loop
-μ-loop text tape n btext table k m widths code₀ starts₀ ends₀ ports all i₀ code starts ends i = all - i
+μ-loop text tape n btext table lines widths code₀ starts₀ ends₀ ports all i₀ code starts ends i = all - i
 
 declared-requires : tie.Need-declared-requires Inv-loop μ-loop
 declared-requires c κs = search needs
@@ -23,13 +23,13 @@ declared-requires c κs = search needs
 add-all : tie.Need-add-all Inv-loop μ-loop
 add-all c =
     let s = c .before .before .before .before .before .before .before in
-    let z = few-declared (s .args .text .now) (s .args .tape .now) (s .args .n) (s .args .btext .now) (s .args .table .now) (s .args .k) (s .args .m) (s .pre .0 .0) (s .pre .1 .3) (c .before .declared .ensures) in
+    let z = few-declared (s .args .text .now) (s .args .tape .now) (s .args .n) (s .args .btext .now) (s .args .table .now) (s .args .lines) (s .pre .0 .0) (s .pre .1 .3) (c .before .declared .ensures) in
     omega (arith, z .0, z .1)
 
 loop-holds : tie.Need-loop-holds Inv-loop μ-loop
 loop-holds c =
     let s = c .before .before .before .before .before .before .before in
-    let z = few-declared (s .args .text .now) (s .args .tape .now) (s .args .n) (s .args .btext .now) (s .args .table .now) (s .args .k) (s .args .m) (s .pre .0 .0) (s .pre .1 .3) (c .before .declared .ensures) in
+    let z = few-declared (s .args .text .now) (s .args .tape .now) (s .args .n) (s .args .btext .now) (s .args .table .now) (s .args .lines) (s .pre .0 .0) (s .pre .1 .3) (c .before .declared .ensures) in
     (omega arith, omega (arith, z .0, z .1), z .0, z .2, refl, refl, refl, no-slots _ _ _ _ _)
 
 mul-starts : tie.Need-mul-starts Inv-loop μ-loop
@@ -117,7 +117,7 @@ solve-requires c κs =
     let y = length-take all (l .starts) in (
       (
         termsOf (s .pre .1 .1) (s .pre .1 .2),
-        (laid (s .args .text .now) (s .args .tape .now) (s .args .n) (s .args .btext .now) (s .args .table .now) (s .args .k) (s .args .m) (s .pre .0 .0)
+        (laid (s .args .text .now) (s .args .tape .now) (s .args .n) (s .args .btext .now) (s .args .table .now) (s .args .lines) (s .pre .0 .0)
             (s .pre .1 .3) (declared .ensures) (l .code) (l .starts) (l .ends) (l .i) (omega arith) (l .inv .7) (l .inv .4) (l .inv .5)
             (l .inv .6)) .coded,
       ),
@@ -131,7 +131,7 @@ returns : tie.Need-returns Inv-loop μ-loop
 returns c = λ ws a b h.
     let s = c .before .before .before .before .before .before .before .before .before .before .before .before .before .before .before .before .before in
     let l = c .before .before .before .before .before .before .before .before .before .loop in
-    let r = laid (s .args .text .now) (s .args .tape .now) (s .args .n) (s .args .btext .now) (s .args .table .now) (s .args .k) (s .args .m) (s .pre .0 .0) h (c .before .before .before .before .before .before .before .before .before .before .before .declared .ensures) (l .code) (l .starts) (l .ends) (l .i) (omega arith) (l .inv .7) (l .inv .4) (l .inv .5) (l .inv .6) in
+    let r = laid (s .args .text .now) (s .args .tape .now) (s .args .n) (s .args .btext .now) (s .args .table .now) (s .args .lines) (s .pre .0 .0) h (c .before .before .before .before .before .before .before .before .before .before .before .declared .ensures) (l .code) (l .starts) (l .ends) (l .i) (omega arith) (l .inv .7) (l .inv .4) (l .inv .5) (l .inv .6) in
     r .yes _ _ (c .if1 .taken) (c .before .before .before .solve .ensures (termsOf a b) (r .coded))
 
 same-length-2 : tie.Need-same-length-2 Inv-loop μ-loop
@@ -141,7 +141,7 @@ returns-2 : tie.Need-returns-2 Inv-loop μ-loop
 returns-2 c = λ ws a b h.
     let s = c .before .before .before .before .before .before .before .before .before .before .before .before .before .before .before .before .before in
     let l = c .before .before .before .before .before .before .before .before .before .loop in
-    let r = laid (s .args .text .now) (s .args .tape .now) (s .args .n) (s .args .btext .now) (s .args .table .now) (s .args .k) (s .args .m) (s .pre .0 .0) h (c .before .before .before .before .before .before .before .before .before .before .before .declared .ensures) (l .code) (l .starts) (l .ends) (l .i) (omega arith) (l .inv .7) (l .inv .4) (l .inv .5) (l .inv .6) in
+    let r = laid (s .args .text .now) (s .args .tape .now) (s .args .n) (s .args .btext .now) (s .args .table .now) (s .args .lines) (s .pre .0 .0) h (c .before .before .before .before .before .before .before .before .before .before .before .declared .ensures) (l .code) (l .starts) (l .ends) (l .i) (omega arith) (l .inv .7) (l .inv .4) (l .inv .5) (l .inv .6) in
     r .no _ _ (c .if1 .left) (c .before .before .before .solve .ensures (termsOf a b) (r .coded))
 
 pub solved-spec : {M : Type 1} → statement M
