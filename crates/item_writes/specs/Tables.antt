@@ -8,6 +8,8 @@ use lib.ListN.{length, getD, take, drop}
 use Rattle.tape.specs.Tape as Tape
 use Rattle.tape.specs.declared.Class.{Class}
 use Rattle.tape.specs.Walk.{opAt, placeAt, valueAt, between}
+use Rattle.bindings.specs.Table.{Lined}
+use Rattle.bindings.specs.declared.Lines.{Lines}
 use Rattle.type_value.specs.Walk.{part}
 use Rattle.settled.specs.Form.{START, six}
 use Rattle.item_writes.specs.declared.Counts.{Counts}
@@ -76,7 +78,7 @@ plainOut o p v =
 
 -- what is looked up by a text, a tape and widths, whatever the bindings and the state
 pub record Looked (text t : List ℕ) (many : ℕ) (ws : List ℕ) {A : Type 0} (r : A) (f : Around → State → A) : Type 0 where
-  pub is : (btext table : List ℕ) (k m : ℕ) (s : State) → r ≡ f (aroundOf text t many btext table k m ws) s
+  pub is : (btext table : List ℕ) (lines : Lines) (s : State) → r ≡ f (aroundOf text t many btext table lines ws) s
 
 -- an item that names nothing
 pub record Unnamed (o : ℕ) : Type 0 where
@@ -130,20 +132,20 @@ pub record Bounded (starts : List ℕ) (i : ℕ) (far : Far) : Type 0 where
 
 -- what is around the items of a tape, and the settled items on it, by their counts
 abbrev pub aroundIn : (text t btext table ws : List ℕ) → Counts → Around
-aroundIn text t btext table ws many = aroundOf text t (many .items) btext table (many .widths) (many .values) ws
+aroundIn text t btext table ws many = aroundOf text t (many .items) btext table (many .lines) ws
 
 abbrev pub settledIn : (text t btext table ws : List ℕ) → Counts → List ℕ
-settledIn text t btext table ws many = settledOn text t (many .items) btext table (many .widths) (many .values) ws
+settledIn text t btext table ws many = settledOn text t (many .items) btext table (many .lines) ws
 
 -- the tables hold the items and lines that the counts say, and the state before item i
 abbrev pub Lent : (t table code starts : List ℕ) → Counts → ℕ → Far → Type 0
 Lent t table code starts many i far =
-    (3 * many .items ≤ length t) × (many .items ≤ Tape.mostItems) × (i < many .items) × (3 * (many .widths + many .values) ≤ length table) × (i ≤ length code) × (i ≤ length starts) × Bounded starts i far
+    (3 * many .items ≤ length t) × (many .items ≤ Tape.mostItems) × (i < many .items) × Lined (many .lines) table × (i ≤ length code) × (i ≤ length starts) × Bounded starts i far
 
 -- the same, with room for what item i does
 abbrev pub Roomy : (t table code starts out : List ℕ) → Counts → ℕ → Far → Type 0
 Roomy t table code starts out many i far =
-    (3 * many .items ≤ length t) × (many .items ≤ Tape.mostItems) × (i < many .items) × (3 * (many .widths + many .values) ≤ length table) × (length code ≡ Tape.mostItems) × (length starts ≡ Tape.mostItems) × (6 * i + 6 ≤ length out) × Bounded starts i far
+    (3 * many .items ≤ length t) × (many .items ≤ Tape.mostItems) × (i < many .items) × Lined (many .lines) table × (length code ≡ Tape.mostItems) × (length starts ≡ Tape.mostItems) × (6 * i + 6 ≤ length out) × Bounded starts i far
 
 -- what item i does to the types that wait, whatever the widths
 abbrev pub Grown : Grows → (text t btext table : List ℕ) → Counts → ℕ → Type 0
@@ -157,7 +159,7 @@ Writes w text t btext table ws code starts many i far =
 -- what is written of a name that is read at item i, whatever the bindings
 abbrev pub Reads : Written → (text t : List ℕ) → (many i p : ℕ) → List ℕ → (lets vals : ℕ) → Type 0
 Reads w text t many i p ws lets vals =
-    (btext table : List ℕ) (k m : ℕ) (s : State) → s .lets ≡ between text t Class.Val lets i → s .vals ≡ vals → numbersOf w ≡ readOut (aroundOf text t many btext table k m ws) s p
+    (btext table : List ℕ) (lines : Lines) (s : State) → s .lets ≡ between text t Class.Val lets i → s .vals ≡ vals → numbersOf w ≡ readOut (aroundOf text t many btext table lines ws) s p
 
 -- what is written of an item that names nothing, by the types that wait
 abbrev pub WritesTyped : Written → (o p v : ℕ) → (code starts ws : List ℕ) → Waits → ℕ → Type 0

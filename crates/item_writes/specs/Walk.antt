@@ -12,6 +12,7 @@ use Rattle.placed.specs.Placed.{nameFrom}
 use Rattle.tape.specs.Tape as Tape
 use Rattle.tape.specs.declared.Class.{Class}
 use Rattle.tape.specs.Walk.{opAt, placeAt, valueAt, between}
+use Rattle.bindings.specs.declared.Lines.{Lines}
 use Rattle.row09_bindings.specs.Lines.{linesOn}
 use Rattle.type_value.specs.Walk.{valueOf}
 use Rattle.settled.specs.Form.{BITS, START, RANGE, READ, HELD, CELL, WRITE, ASSIGN, TYPED, six}
@@ -156,13 +157,13 @@ unfoldable pub walked : Around → List ℕ → ℕ → State
 walked a t zero = start
 walked a t (suc i) = step a (walked a t i) (opAt t i) (placeAt t i) (valueAt t i)
 
--- what is around the items of a tape of so many, with the bindings' k lines of widths and m of values
-unfoldable pub aroundOf : (text t : List ℕ) → ℕ → (btext table : List ℕ) → (k m : ℕ) → List ℕ → Around
-aroundOf text t many btext table k m ws =
+-- what is around the items of a tape of so many, with the bindings' lines
+unfoldable pub aroundOf : (text t : List ℕ) → ℕ → (btext table : List ℕ) → Lines → List ℕ → Around
+aroundOf text t many btext table lines ws =
     record {
       called = nameFrom text;
       constant = constantAt text;
-      value = valueIn (linesOn btext table k m);
+      value = valueIn (linesOn btext table (lines .widths) (lines .values));
       ports = named text t Tape.SIGNED 0 many;
       inputs = between text t Class.Input 0 many;
       memories = named text t Tape.MEMORY 0 many;
@@ -171,5 +172,5 @@ aroundOf text t many btext table k m ws =
     }
 
 -- the settled items of the actor on a tape of so many items
-abbrev pub settledOn : (text t : List ℕ) → ℕ → (btext table : List ℕ) → (k m : ℕ) → List ℕ → List ℕ
-settledOn text t many btext table k m ws = walked (aroundOf text t many btext table k m ws) t many .out
+abbrev pub settledOn : (text t : List ℕ) → ℕ → (btext table : List ℕ) → Lines → List ℕ → List ℕ
+settledOn text t many btext table lines ws = walked (aroundOf text t many btext table lines ws) t many .out

@@ -4,15 +4,15 @@
 mod nodes;
 pub mod writes;
 
+use bindings::Lines;
 pub use nodes::grow;
 pub use nodes::growth;
 pub use nodes::without;
 
-// How many items the tape has, and how many lines the bindings: of widths, and after them of values.
+// How many items the tape has, and how many lines the bindings.
 pub struct Counts {
     pub items: usize,
-    pub widths: usize,
-    pub values: usize,
+    pub lines: Lines,
 }
 
 // The types that wait: how many, and how many nodes they have together.

@@ -24,6 +24,7 @@ ghost use mathlib.Core.List.{List};
 ghost use Prim.Native.Nat.{ℕ, _+_, _-_, _*_, _≤_, _<_};
 ghost use lib.ListN.{length};
 ghost use Rattle.language.specs.Types.{widthOf, positionOf};
+ghost use Rattle.bindings.specs.Table.{Lined};
 ghost use Rattle.type_value.specs.Walk.{valueOf};
 ghost use Rattle.settled.specs.Settled.{placed};
 ghost use Rattle.looked_up.specs.Lookup.{operand};
@@ -49,14 +50,15 @@ pub fn growth(
     many: Counts,
     i: usize,
 ) -> Grows
-    requires { ⌜ (3 * many .items ≤ length (now tape)) × (many .items ≤ mostItems) × (i < many .items) × (3 * (many .widths + many .values) ≤ length (now table)) ⌝ }
+    requires { ⌜ (3 * many .items ≤ length (now tape)) × (many .items ≤ mostItems) × (i < many .items) × Lined (many .lines) (now table) ⌝ }
     ensures { λ r. ⌜ Grown r (now (text .entry)) (now (tape .entry)) (now (btext .entry)) (now (table .entry)) many i ⌝ }
 {
     let place = tape[3 * i + 1];
     match tape[3 * i] {
         NUMBER => Grows::Leaf(leaf(wide(tape[3 * i + 2]) * 8)),
         ENVIRONMENT => {
-            let x = value(text, wide(place), btext, table, many.widths, many.values);
+            let lines = many.lines;
+            let x = value(text, wide(place), btext, table, lines);
             Grows::Leaf(leaf(wide(x) * 8))
         }
         PORT => Grows::Leaf(leaf(numbered(text, tape, many.items, SIGNED, place) * 8 + 1)),

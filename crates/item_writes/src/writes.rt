@@ -6,6 +6,7 @@ use crate::Written;
 use crate::nodes::position;
 use crate::nodes::width;
 use crate::nodes::without;
+use bindings::Lines;
 use looked_up::cells_before;
 use looked_up::count;
 use looked_up::latest;
@@ -51,6 +52,7 @@ ghost use Rattle.language.specs.Widths.{valueIn};
 ghost use Rattle.sized_constants.specs.Constant.{amountOf};
 ghost use Rattle.placed.specs.Placed.{nameFrom};
 ghost use Rattle.tape.specs.Tape.{SIGNED, MEMORY, PRESENT, mostItems};
+ghost use Rattle.bindings.specs.Table.{Lined};
 ghost use Rattle.row09_bindings.specs.Lines.{linesOn};
 ghost use Rattle.settled.specs.Form.{six};
 ghost use Rattle.settled.specs.Settled.{amount as amountNumbers};
@@ -79,11 +81,11 @@ fn amount(place: u32, x: Amount) -> Written
 }
 
 // The value of an environment name.
-fn bound(text: &[u8], place: u32, btext: &[u8], table: &[u32], k: usize, m: usize) -> Written
-    requires { ⌜ 3 * (k + m) ≤ length (now table) ⌝ }
-    ensures { λ r. ⌜ numbersOf r ≡ amountNumbers place (valueIn (linesOn (now (btext .entry)) (now (table .entry)) k m) (nameFrom (now (text .entry)) place)) ⌝ }
+fn bound(text: &[u8], place: u32, btext: &[u8], table: &[u32], lines: Lines) -> Written
+    requires { ⌜ Lined lines (now table) ⌝ }
+    ensures { λ r. ⌜ numbersOf r ≡ amountNumbers place (valueIn (linesOn (now (btext .entry)) (now (table .entry)) (lines .widths) (lines .values)) (nameFrom (now (text .entry)) place)) ⌝ }
 {
-    let x = value(text, wide(place), btext, table, k, m);
+    let x = value(text, wide(place), btext, table, lines);
     amount(place, Amount::Exact(x as u64))
 }
 
@@ -265,7 +267,10 @@ pub fn written(
     let v = tape[3 * i + 2];
     match op {
         GIVEN => amount(p, sized_constants::constant(text, wide(p))),
-        VALUE => bound(text, p, btext, table, many.widths, many.values),
+        VALUE => {
+            let lines = many.lines;
+            bound(text, p, btext, table, lines)
+        }
         READ => read(text, tape, n, i, p, widths, far.lets, far.vals),
         CELL => cell(text, tape, n, settled::CELL, p, widths),
         WRITE => cell(text, tape, n, settled::WRITE, p, widths),

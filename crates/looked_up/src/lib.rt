@@ -1,6 +1,7 @@
 // What a name stands for, by number: ports in the order of the signature, memories and `val`s in their own, lines of the bindings.
 // What comes in: a text and its tape, a name or its place; of the bindings, their text and table. What goes out: where the name
 // stands among those of its kind, or how many they are where it does not; sizes, widths and values by such numbers.
+use bindings::Lines;
 use tape::MEMORY;
 use tape::SIZE;
 use tape::VAL;
@@ -16,6 +17,7 @@ ghost use Rattle.language.specs.Widths.{valueIn};
 ghost use Rattle.placed.specs.Placed.{nameFrom};
 ghost use Rattle.tape.specs.Walk.{between};
 ghost use Rattle.tape.specs.declared.Class.{Class};
+ghost use Rattle.bindings.specs.Table.{Lined};
 ghost use Rattle.row09_bindings.specs.Lines.{linesOn};
 ghost use Rattle.looked_up.specs.Lookup.{operand, named, sizeBefore, sizesOn, sumOf};
 
@@ -105,13 +107,13 @@ pub fn latest(text: &[u8], tape: &[u32], from: usize, to: usize, called: &[u8]) 
     k
 }
 
-// The value of the environment name at a place, by the m lines of the bindings after the first k; 0 where none has it.
-pub fn value(text: &[u8], place: usize, btext: &[u8], table: &[u32], k: usize, m: usize) -> u32
-    requires { ⌜ 3 * (k + m) ≤ length (now table) ⌝ }
-    ensures { λ r. ⌜ r ≡ valueIn (linesOn (now (btext .entry)) (now (table .entry)) k m) (nameFrom (now (text .entry)) place) ⌝ }
+// The value of the environment name at a place, by the lines of the bindings; 0 where none has it.
+pub fn value(text: &[u8], place: usize, btext: &[u8], table: &[u32], lines: Lines) -> u32
+    requires { ⌜ Lined lines (now table) ⌝ }
+    ensures { λ r. ⌜ r ≡ valueIn (linesOn (now (btext .entry)) (now (table .entry)) (lines .widths) (lines .values)) (nameFrom (now (text .entry)) place) ⌝ }
 {
-    let to = k + m;
-    let i = row09_bindings::found(text, place, btext, table, k, to);
+    let to = lines.widths + lines.values;
+    let i = row09_bindings::found(text, place, btext, table, lines.widths, to);
     if i < to {
         return table[3 * i + 2];
     }

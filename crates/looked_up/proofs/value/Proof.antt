@@ -25,13 +25,13 @@ shared-slice-read-result c = search needs
 
 returns : tie.Need-returns
 returns c =
-    let s = c .before .before .before .before .before .before in
-    value-found (s .args .btext .now) (s .args .table .now) (s .args .k) (s .args .m) (nameFrom (s .args .text .now) (s .args .place)) (c .before .before .found .result) (c .before .before .found .ensures) (c .before .if1 .taken)
+    let s = c .before .before .before .before .before .before .before in
+    value-found (s .args .btext .now) (s .args .table .now) (s .args .lines .widths) (s .args .lines .values) (nameFrom (s .args .text .now) (s .args .place)) (c .before .before .found .result) (c .before .before .found .ensures) (c .before .if1 .taken)
 
 returns-2 : tie.Need-returns-2
 returns-2 c =
-    let s = c .before .before .before .before .before in
-    value-missing (s .args .btext .now) (s .args .table .now) (s .args .k) (s .args .m) (nameFrom (s .args .text .now) (s .args .place)) (c .before .found .result) (c .before .found .ensures) (c .if1 .left)
+    let s = c .before .before .before .before .before .before in
+    value-missing (s .args .btext .now) (s .args .table .now) (s .args .lines .widths) (s .args .lines .values) (nameFrom (s .args .text .now) (s .args .place)) (c .before .found .result) (c .before .found .ensures) (c .if1 .left)
 
 pub value-spec : {M : Type 1} → statement M
 value-spec =

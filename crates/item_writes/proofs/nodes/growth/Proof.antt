@@ -85,7 +85,7 @@ returns c = λ ws l. grown-number _ _ _ _ l (c .before .before .before .match .k
 returns-2 : tie.Need-returns-2
 unfolding grownBy aroundOf
 returns-2 c =
-    λ ws l. grown-bound _ _ _ _ l (c .before .before .before .before .match .keys2) _ _ (c .before .wide3 .ensures ∙ c .before .before .value .ensures ∙ rw (c .before .before .before .wide2 .ensures)) (c .leaf2 .ensures)
+    λ ws l. grown-bound _ _ _ _ l (c .before .before .before .before .before .match .keys2) _ _ (c .before .wide3 .ensures ∙ c .before .before .value .ensures ∙ rw (c .before .before .before .wide2 .ensures)) (c .leaf2 .ensures)
 
 returns-3 : tie.Need-returns-3
 unfolding grownBy aroundOf

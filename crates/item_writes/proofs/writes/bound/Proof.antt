@@ -17,8 +17,8 @@ wide-requires c κs = search needs
 value-requires : tie.Need-value-requires
 value-requires c κs = search needs
 
-cast-t9 : tie.Need-cast-t9
-cast-t9 c = search needs
+cast-t8 : tie.Need-cast-t8
+cast-t8 c = search needs
 
 amount-requires : tie.Need-amount-requires
 amount-requires c κs = search needs
@@ -26,8 +26,8 @@ amount-requires c κs = search needs
 returns : tie.Need-returns
 returns c =
     let t = c .before .before .before .before .before .before in
-    let l = linesOn (t .args .btext .now) (t .args .table .now) (t .args .k) (t .args .m) in
+    let l = linesOn (t .args .btext .now) (t .args .table .now) (t .args .lines .widths) (t .args .lines .values) in
     c .amount .ensures _ (small-amount (c .before .value .result) (omega (arith, c .before .value .ok)) ∙ ap amountOf (c .before .value .ensures ∙ ap (λ (q : ℕ). valueIn l (nameFrom (t .args .text .now) q)) (c .before .before .wide .ensures)))
 
 pub bound-spec : {M : Type 1} → statement M
-bound-spec = tie.close (tie.spec wide-requires value-requires cast-t9 amount-requires returns)
+bound-spec = tie.close (tie.spec wide-requires value-requires cast-t8 amount-requires returns)

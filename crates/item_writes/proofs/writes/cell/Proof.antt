@@ -29,9 +29,9 @@ unfolding numbersOf aroundOf
 returns c =
     let t = c .before .before .before .before .before .before .before .before .before .args in
     record {
-      is = λ btext table k m s.
-          cell-looked (aroundOf (t .text .now) (t .tape .now) (t .many) btext table k m (t .widths .now)) s (t .op) (t .place) _ _ _ _ _ _ (c .before .before .before .before .before .numbered .ensures .0)
-          (c .before .before .before .before .cells-before .ensures) (c .before .before .before .narrow .ensures) (c .before .before .memory-width .ensures .is btext table k m s) (c .before .narrow2 .ensures) (c .size-of .ensures);
+      is = λ btext table lines s.
+          cell-looked (aroundOf (t .text .now) (t .tape .now) (t .many) btext table lines (t .widths .now)) s (t .op) (t .place) _ _ _ _ _ _ (c .before .before .before .before .before .numbered .ensures .0)
+          (c .before .before .before .before .cells-before .ensures) (c .before .before .before .narrow .ensures) (c .before .before .memory-width .ensures .is btext table lines s) (c .before .narrow2 .ensures) (c .size-of .ensures);
     }
 
 pub cell-spec : {M : Type 1} → statement M

@@ -13,7 +13,7 @@ memory-width-requires c κs = search needs
 
 returns : tie.Need-returns
 unfolding numbersOf
-returns c = record { is = λ btext table k m s. ap (λ (w : ℕ). six MEMORY (c .before .before .before .before .args .place) w (c .before .before .before .before .args .size) 0 0) (c .memory-width .ensures .is btext table k m s) }
+returns c = record { is = λ btext table lines s. ap (λ (w : ℕ). six MEMORY (c .before .before .before .before .args .place) w (c .before .before .before .before .args .size) 0 0) (c .memory-width .ensures .is btext table lines s) }
 
 pub memory-spec : {M : Type 1} → statement M
 memory-spec = tie.close (tie.spec memory-width-requires returns)

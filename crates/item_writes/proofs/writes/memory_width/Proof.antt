@@ -31,7 +31,7 @@ returns c =
     let memories = named (t .args .text .now) (t .args .tape .now) MEMORY 0 (t .args .many) in
     let n = nameFrom (t .args .text .now) (t .args .place) in
     let h : index ports n < length ports = omega (arith, c .before .before .before .numbered .ensures .0, c .before .before .count .ensures .1 (t .args .text .now), c .before .if1 .taken) in
-    record { is = λ btext table k m s. c .width-of .ensures ∙ ap (λ (i : ℕ). getD (t .args .widths .now) i 0) (c .before .before .before .numbered .ensures .0 ∙ sym (index-first memories n ports h)) }
+    record { is = λ btext table lines s. c .width-of .ensures ∙ ap (λ (i : ℕ). getD (t .args .widths .now) i 0) (c .before .before .before .numbered .ensures .0 ∙ sym (index-first memories n ports h)) }
 
 numbered-requires-2 : tie.Need-numbered-requires-2
 numbered-requires-2 c κs = search needs
@@ -51,7 +51,7 @@ returns-2 c =
     let n = nameFrom (t .args .text .now) (t .args .place) in
     let h : length ports ≤ index ports n = omega (arith, c .before .before .before .before .numbered .ensures .0, c .before .before .before .count .ensures .1 (t .args .text .now), c .before .before .if1 .left) in
     let e : c .before .before .before .count .result + c .before .numbered2 .result ≡ index (ports ++ memories) n = omega (arith, index-second memories n ports h, c .before .numbered2 .ensures .0, c .before .before .before .count .ensures .1 (t .args .text .now)) in
-    record { is = λ btext table k m s. c .width-of2 .ensures ∙ ap (λ (i : ℕ). getD (t .args .widths .now) i 0) e }
+    record { is = λ btext table lines s. c .width-of2 .ensures ∙ ap (λ (i : ℕ). getD (t .args .widths .now) i 0) e }
 
 pub memory-width-spec : {M : Type 1} → statement M
 memory-width-spec =

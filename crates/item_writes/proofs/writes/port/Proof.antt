@@ -19,7 +19,7 @@ returns : tie.Need-returns
 unfolding numbersOf aroundOf
 returns c =
     let t = c .before .before .before .before .before .before .args in
-    record { is = λ btext table k m s. port-looked (aroundOf (t .text .now) (t .tape .now) (t .many) btext table k m (t .widths .now)) s (t .op) (t .place) _ _ _ (c .before .before .numbered .ensures .0) (c .before .narrow .ensures) (c .width-of .ensures) }
+    record { is = λ btext table lines s. port-looked (aroundOf (t .text .now) (t .tape .now) (t .many) btext table lines (t .widths .now)) s (t .op) (t .place) _ _ _ (c .before .before .numbered .ensures .0) (c .before .narrow .ensures) (c .width-of .ensures) }
 
 pub port-spec : {M : Type 1} → statement M
 port-spec = tie.close (tie.spec numbered-requires narrow-requires width-of-requires returns)

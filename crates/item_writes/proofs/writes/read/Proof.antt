@@ -37,26 +37,26 @@ narrow-requires c κs = search needs
 
 returns : tie.Need-returns
 unfolding numbersOf aroundOf
-returns c = λ btext table k m s el ev.
+returns c = λ btext table lines s el ev.
     let t = c .before .before .before .before .before .before .before .before .before .before .before in
     let n = c .before .before .before .before .before .before .name .ensures ∙ ap (nameFrom (t .args .text .now)) (c .before .before .before .before .before .before .before .wide .ensures) in
     let e : among (s .lets) (nameFrom (t .args .text .now) (t .args .place)) ≡ true = ap₂ among el (sym n) ∙ sym (c .before .before .before .before .before .said .ensures) ∙ c .before .before .before .before .if1 .taken in
     let f : c .before .before .before .latest .result ≡ index (s .lets) (nameFrom (t .args .text .now) (t .args .place)) = c .before .before .before .latest .ensures ∙ ap₂ index (sym el) n in
     let g : c .before .less2 .result ≡ s .vals - suc (index (s .lets) (nameFrom (t .args .text .now) (t .args .place))) = omega (arith, f, ev, c .before .before .less .ensures, c .before .less2 .ensures) in
     ap (λ (q : ℕ). six HELD (t .args .place) q 0 0 0) (c .narrow .ensures ∙ ap operand g)
-    ∙ sym (read-held (aroundOf (t .args .text .now) (t .args .tape .now) (t .args .many) btext table k m (t .args .widths .now)) s (t .args .place) e)
+    ∙ sym (read-held (aroundOf (t .args .text .now) (t .args .tape .now) (t .args .many) btext table lines (t .args .widths .now)) s (t .args .place) e)
 
 port-requires : tie.Need-port-requires
 port-requires c κs = search needs
 
 returns-2 : tie.Need-returns-2
 unfolding numbersOf aroundOf
-returns-2 c = λ btext table k m s el ev.
+returns-2 c = λ btext table lines s el ev.
     let t = c .before .before .before .before .before .before .before .before in
     let n = c .before .before .before .name .ensures ∙ ap (nameFrom (t .args .text .now)) (c .before .before .before .before .wide .ensures) in
     let e : among (s .lets) (nameFrom (t .args .text .now) (t .args .place)) ≡ false = ap₂ among el (sym n) ∙ sym (c .before .before .said .ensures) ∙ c .before .if1 .left in
-    c .port .ensures .is btext table k m s
-    ∙ sym (read-port (aroundOf (t .args .text .now) (t .args .tape .now) (t .args .many) btext table k m (t .args .widths .now)) s (t .args .place) e)
+    c .port .ensures .is btext table lines s
+    ∙ sym (read-port (aroundOf (t .args .text .now) (t .args .tape .now) (t .args .many) btext table lines (t .args .widths .now)) s (t .args .place) e)
 
 pub read-spec : {M : Type 1} → statement M
 read-spec =

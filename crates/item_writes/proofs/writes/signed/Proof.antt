@@ -39,7 +39,7 @@ returns c =
     let l = between (t .args .text .now) (t .args .tape .now) Class.Input 0 (t .args .many) in
     let e : among l (nameFrom (t .args .text .now) (t .args .place)) ≡ true = sym (c .before .said .ensures ∙ ap (among l) (c .before .before .name .ensures ∙ ap (nameFrom (t .args .text .now)) (c .before .before .before .wide .ensures))) ∙ c .if1 .taken in
     let w = c .before .before .before .before .width-of .ensures ∙ ap (λ (q : ℕ). getD (t .args .widths .now) q 0) (c .before .before .before .before .before .numbered .ensures .0) in
-    record { is = λ btext table k m s. ap (λ (q : ℕ). six SIGNED (t .args .place) q 0 0 0) w ∙ sym (signed-input (aroundOf (t .args .text .now) (t .args .tape .now) (t .args .many) btext table k m (t .args .widths .now)) s (t .args .place) e) }
+    record { is = λ btext table lines s. ap (λ (q : ℕ). six SIGNED (t .args .place) q 0 0 0) w ∙ sym (signed-input (aroundOf (t .args .text .now) (t .args .tape .now) (t .args .many) btext table lines (t .args .widths .now)) s (t .args .place) e) }
 
 wide-requires-2 : tie.Need-wide-requires-2
 wide-requires-2 c κs = search needs
@@ -57,7 +57,7 @@ returns-2 c =
     let l = between (t .args .text .now) (t .args .tape .now) Class.Input 0 (t .args .many) in
     let e : among l (nameFrom (t .args .text .now) (t .args .place)) ≡ false = sym (c .before .before .before .said .ensures ∙ ap (among l) (c .before .before .before .before .name .ensures ∙ ap (nameFrom (t .args .text .now)) (c .before .before .before .before .before .wide .ensures))) ∙ c .before .before .if1 .left in
     let w = c .before .wide2 .ensures ∙ c .before .before .before .before .before .before .width-of .ensures ∙ ap (λ (q : ℕ). getD (t .args .widths .now) q 0) (c .before .before .before .before .before .before .before .numbered .ensures .0) in
-    record { is = λ btext table k m s. ap (λ (q : ℕ). six SIGNED (t .args .place) q 0 0 0) (c .narrow .ensures ∙ ap (λ (q : ℕ). operand (q + 256)) w) ∙ sym (signed-output (aroundOf (t .args .text .now) (t .args .tape .now) (t .args .many) btext table k m (t .args .widths .now)) s (t .args .place) e) }
+    record { is = λ btext table lines s. ap (λ (q : ℕ). six SIGNED (t .args .place) q 0 0 0) (c .narrow .ensures ∙ ap (λ (q : ℕ). operand (q + 256)) w) ∙ sym (signed-output (aroundOf (t .args .text .now) (t .args .tape .now) (t .args .many) btext table lines (t .args .widths .now)) s (t .args .place) e) }
 
 pub signed-spec : {M : Type 1} → statement M
 signed-spec =

@@ -87,34 +87,34 @@ returns c = λ out. let t = c .before .before .before .before .before .before .b
 
 returns-2 : tie.Need-returns-2
 unfolding aroundOf
-returns-2 c = λ out. c .bound .ensures ∙ sym (written-value _ _ _ _ _ (c .before .match .keys2))
+returns-2 c = λ out. c .bound .ensures ∙ sym (written-value _ _ _ _ _ (c .before .before .match .keys2))
 
 returns-3 : tie.Need-returns-3
 unfolding stateOf
 returns-3 c =
     λ out. let t = c .before .before .before .before .before .before .before .before .before .before .before .before in c .read .ensures
-    (t .args .btext .now) (t .args .table .now) (t .args .many .widths) (t .args .many .values)
+    (t .args .btext .now) (t .args .table .now) (t .args .many .lines)
     (stateOf (t .args .text .now) (t .args .tape .now) (t .args .code .now) (t .args .starts .now) out (t .args .i) (t .args .far)) refl refl ∙ sym
     (written-read _ _ _ _ _ (c .before .match .keys3))
 
 returns-4 : tie.Need-returns-4
 returns-4 c =
     λ out. let t = c .before .before .before .before .before .before .before .before .before .before .before .before in c .cell .ensures .is
-    (t .args .btext .now) (t .args .table .now) (t .args .many .widths) (t .args .many .values)
+    (t .args .btext .now) (t .args .table .now) (t .args .many .lines)
     (stateOf (t .args .text .now) (t .args .tape .now) (t .args .code .now) (t .args .starts .now) out (t .args .i) (t .args .far)) ∙ sym
     (written-cell _ _ _ _ _ (c .before .match .keys4))
 
 returns-5 : tie.Need-returns-5
 returns-5 c =
     λ out. let t = c .before .before .before .before .before .before .before .before .before .before .before .before in c .cell2 .ensures .is
-    (t .args .btext .now) (t .args .table .now) (t .args .many .widths) (t .args .many .values)
+    (t .args .btext .now) (t .args .table .now) (t .args .many .lines)
     (stateOf (t .args .text .now) (t .args .tape .now) (t .args .code .now) (t .args .starts .now) out (t .args .i) (t .args .far)) ∙ sym
     (written-write _ _ _ _ _ (c .before .match .keys5))
 
 returns-6 : tie.Need-returns-6
 returns-6 c =
     λ out. let t = c .before .before .before .before .before .before .before .before .before .before .before .before in c .port .ensures .is
-    (t .args .btext .now) (t .args .table .now) (t .args .many .widths) (t .args .many .values)
+    (t .args .btext .now) (t .args .table .now) (t .args .many .lines)
     (stateOf (t .args .text .now) (t .args .tape .now) (t .args .code .now) (t .args .starts .now) out (t .args .i) (t .args .far)) ∙ sym
     (written-assign _ _ _ _ _ (c .before .match .keys6))
 
@@ -126,14 +126,14 @@ returns-8 : tie.Need-returns-8
 unfolding stateOf
 returns-8 c =
     λ out. let t = c .before .before .before .before .before .before .before .before .before .before .before .before in c .memory .ensures .is
-    (t .args .btext .now) (t .args .table .now) (t .args .many .widths) (t .args .many .values)
+    (t .args .btext .now) (t .args .table .now) (t .args .many .lines)
     (stateOf (t .args .text .now) (t .args .tape .now) (t .args .code .now) (t .args .starts .now) out (t .args .i) (t .args .far)) ∙ sym
     (written-memory _ _ _ _ _ (c .before .match .keys8))
 
 returns-9 : tie.Need-returns-9
 returns-9 c =
     λ out. let t = c .before .before .before .before .before .before .before .before .before .before .before .before in c .signed .ensures .is
-    (t .args .btext .now) (t .args .table .now) (t .args .many .widths) (t .args .many .values)
+    (t .args .btext .now) (t .args .table .now) (t .args .many .lines)
     (stateOf (t .args .text .now) (t .args .tape .now) (t .args .code .now) (t .args .starts .now) out (t .args .i) (t .args .far)) ∙ sym
     (written-signed _ _ _ _ _ (c .before .match .keys9))
 
@@ -142,8 +142,7 @@ unfolding aroundOf stateOf
 returns-10 c =
     let match = c .before .before .match in
     λ out. let t = c .before .before .before .before .before .before .before .before .before .before .before .before .before in c .typed .ensures
-    (aroundOf (t .args .text .now) (t .args .tape .now) (t .args .many .items) (t .args .btext .now) (t .args .table .now) (t .args .many .widths)
-    (t .args .many .values) (t .args .widths .now))
+    (aroundOf (t .args .text .now) (t .args .tape .now) (t .args .many .items) (t .args .btext .now) (t .args .table .now) (t .args .many .lines) (t .args .widths .now))
     (stateOf (t .args .text .now) (t .args .tape .now) (t .args .code .now) (t .args .starts .now) out (t .args .i) (t .args .far)) refl refl refl
     (record {
       given = match .rest .0 .0 .0 .0 .0 .0 .0 .0 .1;
