@@ -26,6 +26,7 @@ use Rattle.typing.proofs.Rules.{passed, type-right}
 use Rattle.typing.proofs.Accepted.{All, RightType, types-right}
 use Rattle.tape.proofs.Listed.{inStatement}
 use Rattle.bits.proofs.Sets.{both-right}
+use Rattle.bindings.specs.declared.Lines.{Lines}
 use Rattle.row10_widths.specs.Row.{Asked}
 use Rattle.row10_widths.proofs.Whole.{every-all, not-too-many, memory-names, low-values, few-ports, few-memories, wants-long}
 use Rattle.looked_up.specs.Lookup.{sumOf}
@@ -129,15 +130,15 @@ few-of ws a h =
 
 -- ---- what was asked
 
-module _ (text t : List ℕ) (n : ℕ) (btext table : List ℕ) (k m : ℕ) {ws : List Word} {a : Actor} {b : Bindings} (low : n ≤ length t) (h : Asked text t n btext table k m ws a b) (widths : List ℕ) (r : Resolved a b (some widths)) where
+module _ (text t : List ℕ) (n : ℕ) (btext table : List ℕ) (lines : Lines) {ws : List Word} {a : Actor} {b : Bindings} (low : n ≤ length t) (h : Asked text t n btext table lines ws a b) (widths : List ℕ) (r : Resolved a b (some widths)) where
   abbrev S : Setting
   S = record { actor = a; bindings = b; widths = widths }
 
   pub asked-small : Small S
   asked-small =
-      let p = few-ports text t n btext table k m low h in
-      let q = few-memories text t n btext table k m low h in
-      let l = wants-long text t n btext table k m low h in
+      let p = few-ports text t n btext table lines low h in
+      let q = few-memories text t n btext table lines low h in
+      let l = wants-long text t n btext table lines low h in
       let e = r .satisfies .long in
       record {
         ports = let x = spelled-long (a .signature) in omega arith;
@@ -148,7 +149,7 @@ module _ (text t : List ℕ) (n : ℕ) (btext table : List ℕ) (k m : ℕ) {ws 
       }
 
   type-is : (u : Ty) → RightType a b u → Right S u
-  type-is u y = type-right (spelledOf (a .signature)) (length widths) (let l = wants-long text t n btext table k m low h in let e = r .satisfies .long in let x = spelled-long (a .signature) in omega arith) (valueIn (b .values)) (low-values text t n btext table k m low h) u (y .0) (y .1) (y .2)
+  type-is u y = type-right (spelledOf (a .signature)) (length widths) (let l = wants-long text t n btext table lines low h in let e = r .satisfies .long in let x = spelled-long (a .signature) in omega arith) (valueIn (b .values)) (low-values text t n btext table lines low h) u (y .0) (y .1) (y .2)
 
   types-are : (l : List Ty) → All (RightType a b) l → Every (Right S) l
   types-are [] y = tt

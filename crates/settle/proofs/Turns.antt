@@ -13,6 +13,7 @@ use Rattle.tape.specs.Tape.{VAL, END, RULED}
 use Rattle.tape.specs.declared.Class.{Class}
 use Rattle.tape.specs.Walk.{opAt, placeAt, valueAt, hit, add, namesOn, between}
 use Rattle.tape.proofs.Seens.{more}
+use Rattle.bindings.specs.declared.Lines.{Lines}
 use Rattle.item_writes.specs.declared.Far.{Far}
 use Rattle.item_writes.specs.declared.Written.{Written}
 use Rattle.item_writes.specs.declared.Written.the-variants.{Nothing, Six}
@@ -77,9 +78,9 @@ vals-are o vals = ap (λ (n : ℕ). when (eqb o VAL) n (when (eqb o RULED) 0 val
 
 -- ---- the state
 
-module _ (text t : List ℕ) (many : ℕ) (btext table : List ℕ) (k m : ℕ) (ws code starts out : List ℕ) (i : ℕ) (far : Far) where
+module _ (text t : List ℕ) (many : ℕ) (btext table : List ℕ) (lines : Lines) (ws code starts out : List ℕ) (i : ℕ) (far : Far) where
   abbrev Around-it : Around
-  Around-it = aroundOf text t many btext table k m ws
+  Around-it = aroundOf text t many btext table lines ws
 
   abbrev Before-it : State
   Before-it = stateOf text t code starts out i far

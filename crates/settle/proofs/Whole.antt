@@ -24,6 +24,7 @@ use Rattle.row09_bindings.proofs.Tables.{values-on}
 use Rattle.row10_widths.specs.Row.{Asked}
 use Rattle.settled.specs.Form.{BIG, AMOUNT, six}
 use Rattle.settled.specs.Settled.{amount, settledOf}
+use Rattle.bindings.specs.declared.Lines.{Lines}
 use Rattle.item_writes.specs.Walk.{Around, State, start, step, walked, when, aroundOf, settledOn, portOut, cellOut, readOut, signedOut, namedOut, written}
 use Rattle.settle.proofs.Settings.{around}
 use Rattle.settle.proofs.Actors.{actor-goes}
@@ -93,8 +94,8 @@ thirds n = (omega arith, omega arith)
 abbrev inputsOn : (text t : List ℕ) → ℕ → List (List ℕ)
 inputsOn text t n = between text t Class.Input 0 (n / 3)
 
-module _ {text t : List ℕ} {n : ℕ} {btext table : List ℕ} {k m : ℕ} {ws : List Word} {a : Actor} {b : Bindings} {widths : List ℕ} (h : Asked text t n btext table k m ws a b) (r : Resolved a b (some widths)) (low : n ≤ length t) where
-  around-is : aroundOf text t (n / 3) btext table k m widths ≡ around text (record { actor = a; bindings = b; widths = widths }) (inputsOn text t n)
+module _ {text t : List ℕ} {n : ℕ} {btext table : List ℕ} {lines : Lines} {ws : List Word} {a : Actor} {b : Bindings} {widths : List ℕ} (h : Asked text t n btext table lines ws a b) (r : Resolved a b (some widths)) (low : n ≤ length t) where
+  around-is : aroundOf text t (n / 3) btext table lines widths ≡ around text (record { actor = a; bindings = b; widths = widths }) (inputsOn text t n)
   unfolding aroundOf
   around-is =
       let q = placed (h .tells .lexed) (h .tells .parses) in
@@ -108,7 +109,7 @@ module _ {text t : List ℕ} {n : ℕ} {btext table : List ℕ} {k m : ℕ} {ws 
   inputs-are : (s : List ℕ) → among (inputsOn text t n) s ≡ among (inputNames (a .ports)) s
   inputs-are s = let e = thirds n in agreed text t n (n / 3) low (e .0) (e .1) (h .tells) .inputs s
 
-  pub settled-is : settledOn text t (n / 3) btext table k m widths ≡ settledOf (record { actor = a; bindings = b; widths = widths })
+  pub settled-is : settledOn text t (n / 3) btext table lines widths ≡ settledOf (record { actor = a; bindings = b; widths = widths })
   settled-is =
       let e = thirds n in
       let s : Setting = record { actor = a; bindings = b; widths = widths } in
@@ -116,11 +117,11 @@ module _ {text t : List ℕ} {n : ℕ} {btext table : List ℕ} {k m : ℕ} {ws 
       ap (λ (c : Around). walked c t (n / 3) .out) around-is
       ∙ ap (λ (x : State). x .out)
       (walked-up A t (n / 3) ∙ sym (by-index (step A) start t n (n / 3) low (e .0) (e .1)) ∙ ap (fold (step A) start) (h .tells .holds)
-      ∙ goes-whole (actor-goes text s (inputsOn text t n) (asked-small text t n btext table k m low h widths r) inputs-are (asked-right text t n btext table k m low h widths r)))
+      ∙ goes-whole (actor-goes text s (inputsOn text t n) (asked-small text t n btext table lines low h widths r) inputs-are (asked-right text t n btext table lines low h widths r)))
 
   pub settled-many : length (settledOf (record { actor = a; bindings = b; widths = widths })) ≤ 2 * n
   settled-many =
       let e = thirds n in
       let x = ap length settled-is in
-      let w = walked-few (aroundOf text t (n / 3) btext table k m widths) t (n / 3) in
+      let w = walked-few (aroundOf text t (n / 3) btext table lines widths) t (n / 3) in
       omega (arith, e .0, w .0)

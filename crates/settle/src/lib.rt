@@ -4,14 +4,16 @@
 mod items;
 mod steps;
 
+use bindings::Lines;
 use item_writes::Counts;
 use steps::begin;
 use steps::step;
 use tape::ITEMS;
 ghost use Rattle.tape.specs.Tape.{longest, mostItems};
 ghost use mathlib.Core.Path.{_≡_};
-ghost use Prim.Native.Nat.{_+_, _*_, _/_, _≤_};
+ghost use Prim.Native.Nat.{_*_, _/_, _≤_};
 ghost use lib.ListN.{length, take, drop};
+ghost use Rattle.bindings.specs.Table.{Lined};
 ghost use Rattle.item_writes.specs.Walk.{settledOn};
 ghost use Rattle.item_writes.specs.Tables.{Holds, settledIn};
 
@@ -25,7 +27,7 @@ fn walk(
     many: Counts,
     out: &mut [u32],
 ) -> usize
-    requires { ⌜ (3 * many .items ≤ length (now tape)) × (many .items ≤ mostItems) × (3 * (many .widths + many .values) ≤ length (now table)) × (6 * many .items ≤ length (now out)) ⌝ }
+    requires { ⌜ (3 * many .items ≤ length (now tape)) × (many .items ≤ mostItems) × Lined (many .lines) (now table) × (6 * many .items ≤ length (now out)) ⌝ }
     ensures { λ r. ⌜ Holds (settledIn (now (text .entry)) (now (tape .entry)) (now (btext .entry)) (now (table .entry)) (now (widths .entry)) many) r (now (out .entry)) (now (out .exit)) ⌝ }
 {
     let mut code = [0u32; ITEMS];
@@ -58,20 +60,18 @@ pub fn settled(
     n: usize,
     btext: &[u8],
     table: &[u32],
-    k: usize,
-    m: usize,
+    lines: Lines,
     widths: &[u32],
     out: &mut [u32],
 ) -> usize
-    requires { ⌜ (n ≤ length (now tape)) × (n ≤ longest) × (3 * (k + m) ≤ length (now table)) × (2 * n ≤ length (now out)) ⌝ }
-    ensures long { λ r. ⌜ r ≡ length (settledOn (now (text .entry)) (now (tape .entry)) (n / 3) (now (btext .entry)) (now (table .entry)) k m (now (widths .entry))) ⌝ }
-    ensures items { λ r. ⌜ take r (now (out .exit)) ≡ settledOn (now (text .entry)) (now (tape .entry)) (n / 3) (now (btext .entry)) (now (table .entry)) k m (now (widths .entry)) ⌝ }
+    requires { ⌜ (n ≤ length (now tape)) × (n ≤ longest) × Lined lines (now table) × (2 * n ≤ length (now out)) ⌝ }
+    ensures long { λ r. ⌜ r ≡ length (settledOn (now (text .entry)) (now (tape .entry)) (n / 3) (now (btext .entry)) (now (table .entry)) lines (now (widths .entry))) ⌝ }
+    ensures items { λ r. ⌜ take r (now (out .exit)) ≡ settledOn (now (text .entry)) (now (tape .entry)) (n / 3) (now (btext .entry)) (now (table .entry)) lines (now (widths .entry)) ⌝ }
     ensures past { λ r. ⌜ drop r (now (out .exit)) ≡ drop r (now (out .entry)) ⌝ }
 {
     let many = Counts {
         items: n / 3,
-        widths: k,
-        values: m,
+        lines,
     };
     walk(text, tape, btext, table, widths, many, out)
 }

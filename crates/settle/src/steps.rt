@@ -104,12 +104,11 @@ pub fn step(
     far: Far,
 ) -> Far
     requires { ⌜ Roomy (now tape) (now table) (now code) (now starts) (now out) many i far ⌝ }
-    ensures { λ r. ⌜ Bounded (now (starts .exit)) (i + 1) r
-        × Kept (far .out) (r .out) (now (out .entry)) (now (out .exit))
-        × (stateOf (now (text .entry)) (now (tape .entry)) (now (code .exit)) (now (starts .exit)) (now (out .exit)) (i + 1) r
-        ≡ turned (aroundIn (now (text .entry)) (now (tape .entry)) (now (btext .entry)) (now (table .entry)) (now (widths .entry)) many)
-        (stateOf (now (text .entry)) (now (tape .entry)) (now (code .entry)) (now (starts .entry)) (now (out .entry)) i far)
-        (now (tape .entry)) i) ⌝ }
+    ensures bounded { λ r. ⌜ Bounded (now (starts .exit)) (i + 1) r ⌝ }
+    ensures kept { λ r. ⌜ Kept (far .out) (r .out) (now (out .entry)) (now (out .exit)) ⌝ }
+    ensures state { λ r. let a = aroundIn (now (text .entry)) (now (tape .entry)) (now (btext .entry)) (now (table .entry)) (now (widths .entry)) many in
+        let s = stateOf (now (text .entry)) (now (tape .entry)) (now (code .entry)) (now (starts .entry)) (now (out .entry)) i far in
+        ⌜ stateOf (now (text .entry)) (now (tape .entry)) (now (code .exit)) (now (starts .exit)) (now (out .exit)) (i + 1) r ≡ turned a s (now (tape .entry)) i ⌝ }
 {
     let op = tape[3 * i];
     let v = tape[3 * i + 2];

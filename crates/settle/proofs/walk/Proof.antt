@@ -17,7 +17,7 @@ use Rattle.settle.proofs.walk.Statement.{statement}
 use Rattle.settle.proofs.walk.Tie as tie
 
 abbrev Inv-loop : tie.InvT-loop
-Inv-loop text tape btext table widths many out₀ code₀ starts₀ far₀ i₀ out code starts far i = (i ≤ many .items) × (length code ≡ 8192) × (length starts ≡ 8192) × (length out ≡ length out₀) × Bounded starts i far × Kept 0 (far .out) out₀ out × (stateOf text tape code starts out i far ≡ walked (aroundOf text tape (many .items) btext table (many .widths) (many .values) widths) tape i)
+Inv-loop text tape btext table widths many out₀ code₀ starts₀ far₀ i₀ out code starts far i = (i ≤ many .items) × (length code ≡ 8192) × (length starts ≡ 8192) × (length out ≡ length out₀) × Bounded starts i far × Kept 0 (far .out) out₀ out × (stateOf text tape code starts out i far ≡ walked (aroundOf text tape (many .items) btext table (many .lines) widths) tape i)
 
 abbrev μ-loop : tie.MeasureT-loop
 μ-loop text tape btext table widths many out₀ code₀ starts₀ far₀ i₀ out code starts far i = many .items - i
@@ -60,8 +60,8 @@ loop-again c =
       k .1 .1 .1 .1 .1 .1 .1 .1 .0 ∙ l .2,
       k .1 .1 .1 .1 .1 .1 .1 .1 .1 .0 ∙ l .3,
       step .ensures .0,
-      kept-on (l .5) (step .ensures .1),
-      walked-next _ _ _ _ _ (l .6) (step .ensures .2),
+      kept-on (l .5) (step .ensures .1 .0),
+      walked-next _ _ _ _ _ (l .6) (step .ensures .1 .1),
     )
 
 same-length : tie.Need-same-length Inv-loop μ-loop
@@ -73,7 +73,7 @@ returns c =
     let t = c .before .before .before .before .before .before .before .before .before .before in
     let l = c .before .before .loop .inv in
     let q : c .before .before .loop .i ≡ t .args .many .items = omega (arith, c .if1 .left, l .0) in
-    let e = ap (λ (s : State). s .out) (l .6 ∙ ap (walked (aroundOf (t .args .text .now) (t .args .tape .now) (t .args .many .items) (t .args .btext .now) (t .args .table .now) (t .args .many .widths) (t .args .many .values) (t .args .widths .now)) (t .args .tape .now)) q) in
+    let e = ap (λ (s : State). s .out) (l .6 ∙ ap (walked (aroundOf (t .args .text .now) (t .args .tape .now) (t .args .many .items) (t .args .btext .now) (t .args .table .now) (t .args .many .lines) (t .args .widths .now)) (t .args .tape .now)) q) in
     record { long = sym (length-take-le (c .before .before .loop .far .out) (c .before .before .loop .out) (omega (arith, l .4 .out, l .0, l .3, c .before .before .before .before .before .before .before .before .before .before .pre .3))) ∙ ap length e; items = e; past = l .5 .past }
 
 pub walk-spec : {M : Type 1} → statement M

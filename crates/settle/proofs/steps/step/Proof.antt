@@ -117,29 +117,30 @@ returns c =
             (arith, vals-after .ensures, vals-within o (t .args .far .vals) (t .args .i) (b .vals));
         ordered = g .ordered;
       },
-      record {
-        more = omega (arith, out);
-        past = rw (out, put .ensures .1)
-            (unstored (t .args .out .now) (numbersOf (written .result)) (t .args .far .out) fits);
-      },
-      turn (t .args .text .now) (t .args .tape .now) (t .args .many .items) (t .args .btext .now) (t .args .table .now) (t .args .many .widths)
-          (t .args .many .values) (t .args .widths .now) (t .args .code .now) (t .args .starts .now) (t .args .out .now) (t .args .i) (t .args .far) _ _ _ _
-          (b .lets)
-          (record {
-            types = g .is ∙ growth .ensures (t .args .widths .now) _ ∙ ap
-                (grown
-                (aroundOf (t .args .text .now) (t .args .tape .now) (t .args .many .items) (t .args .btext .now) (t .args .table .now)
-                (t .args .many .widths) (t .args .many .values) (t .args .widths .now))
-                o (placeAt (t .args .tape .now) (t .args .i)) (valueAt (t .args .tape .now) (t .args .i)))
-                (the-without .ensures .1 (t .args .code .now) ∙ ap
-                (λ (n : ℕ). without n (waitsIn (t .args .code .now) (t .args .starts .now) (t .args .far .waits))) (wide .ensures ∙ takes .ensures));
-            wrote = ap₂ (λ (n : ℕ) (x : List ℕ). take n x) out (put .ensures .1) ∙ stored (t .args .out .now) (numbersOf (written .result))
-                (t .args .far .out) fits ∙ ap (λ (x : List ℕ). take (t .args .far .out) (t .args .out .now) ++ x) (written .ensures (t .args .out .now));
-            lets
-                = lets-after .ensures;
-            vals = vals-after .ensures;
-            size = c .size-after .ensures;
-          }),
+      (
+        record {
+          more = omega (arith, out);
+          past = rw (out, put .ensures .1)
+              (unstored (t .args .out .now) (numbersOf (written .result)) (t .args .far .out) fits);
+        },
+        turn (t .args .text .now) (t .args .tape .now) (t .args .many .items) (t .args .btext .now) (t .args .table .now) (t .args .many .lines) (t .args .widths .now) (t .args .code .now) (t .args .starts .now) (t .args .out .now) (t .args .i) (t .args .far) _ _ _ _
+            (b .lets)
+            (record {
+              types = g .is ∙ growth .ensures (t .args .widths .now) _ ∙ ap
+                  (grown
+                  (aroundOf (t .args .text .now) (t .args .tape .now) (t .args .many .items) (t .args .btext .now) (t .args .table .now)
+                  (t .args .many .lines) (t .args .widths .now))
+                  o (placeAt (t .args .tape .now) (t .args .i)) (valueAt (t .args .tape .now) (t .args .i)))
+                  (the-without .ensures .1 (t .args .code .now) ∙ ap
+                  (λ (n : ℕ). without n (waitsIn (t .args .code .now) (t .args .starts .now) (t .args .far .waits))) (wide .ensures ∙ takes .ensures));
+              wrote = ap₂ (λ (n : ℕ) (x : List ℕ). take n x) out (put .ensures .1) ∙ stored (t .args .out .now) (numbersOf (written .result))
+                  (t .args .far .out) fits ∙ ap (λ (x : List ℕ). take (t .args .far .out) (t .args .out .now) ++ x) (written .ensures (t .args .out .now));
+              lets
+                  = lets-after .ensures;
+              vals = vals-after .ensures;
+              size = c .size-after .ensures;
+            }),
+      ),
     )
 
 pub step-spec : {M : Type 1} → statement M
