@@ -8,7 +8,7 @@ use Rattle.language.specs.Tree.{Expr, Declared, untyped, Port, Size, one, cells
 use Rattle.tape.specs.Tape.{item, flatD, flatVal, flatAssignment, flatStatement, flatEntry, flatRule, flatGroup, flatPort, flatSize, flatMemory, flatSigned, flatActor, MEMORY}
 use Rattle.placed.proofs.Every.{each-append}
 use Rattle.placed.proofs.Same.{Same, is, equal, then, beside, mix, each-each, each-as}
-use Rattle.row08_types.specs.Walk.{kindOf}
+use Rattle.tape.specs.Nodes.{nodeOf}
 use Rattle.row08_types.proofs.Parts.{placesI, places-append, Finds, told, listed, spread, both, quiet, ends, many, many-quiet, Starts, starts-item, starts-more, typed, expr-starts, expr-finds}
 
 decl-finds : (d : Declared) {b : List ℕ} {y : List Item} → Starts b → Finds b y → Finds (flatD d ++ b) (declaredItems d ++ y)
@@ -22,14 +22,14 @@ abbrev inVal : Val → List Item
 inVal v = declaredItems (v .type) ++ items (v .value)
 
 val-finds : (v : Val) → Finds (flatVal v) (inVal v)
-unfolding flatVal kindOf
+unfolding flatVal nodeOf
 val-finds v = ends _ _ _ (decl-finds (v .type) (expr-starts (v .value)) (expr-finds (v .value))) refl
 
 abbrev inAssignment : Assignment → List Item
 inAssignment x = each items (assigned x)
 
 assignment-finds : (x : Assignment) → Finds (flatAssignment x) (inAssignment x)
-unfolding flatAssignment assigned each kindOf
+unfolding flatAssignment assigned each nodeOf
 assignment-finds (assign n e) = listed (sym (append-nil (items e))) (ends _ _ _ (expr-finds e) refl)
 assignment-finds (write n a e) = listed (ap (λ (y : List Item). items a ++ y) (sym (append-nil (items e)))) (ends _ _ _ (both (expr-finds a) (expr-finds e)) refl)
 
@@ -62,41 +62,41 @@ scoped-same vs l =
         (ap placesI (each-append items es (each assigned l)) ∙ places-append (each items es) (each items (each assigned l)) ∙ ap (λ (x : List Item). placesI (each items es) ++ placesI x) (each-each items assigned (each-append items) l))
 
 statement-finds : (x : Statement) → Finds (flatStatement x) (inStatement x)
-unfolding flatStatement valItems wholes kindOf
+unfolding flatStatement valItems wholes nodeOf
 statement-finds (alone x) = assignment-finds x
 statement-finds (scoped vs l) = told (scoped-same vs l) (ends _ _ _ (both (both (quiet _ _ _ refl) (many flatVal inVal val-finds vs)) (many flatAssignment inAssignment assignment-finds l)) refl)
 
 -- ---- rules and groups
 
 entry-finds : (e : Entry) → Finds (flatEntry e) []
-unfolding flatEntry kindOf
+unfolding flatEntry nodeOf
 entry-finds e = quiet _ _ _ refl
 
 rule-finds : (r : Rule) → Finds (flatRule r) (each inStatement (r .body))
-unfolding flatRule kindOf
+unfolding flatRule nodeOf
 rule-finds r = ends _ _ _ (both (both (quiet _ _ _ refl) (many-quiet flatEntry entry-finds (r .list))) (many flatStatement inStatement statement-finds (r .body))) refl
 
 group-finds : (g : Group) → Finds (flatGroup g) (each (λ (r : Rule). each inStatement (r .body)) (g .rules))
-unfolding flatGroup kindOf
+unfolding flatGroup nodeOf
 group-finds g = ends _ _ _ (both (quiet _ _ _ refl) (many flatRule (λ (r : Rule). each inStatement (r .body)) rule-finds (g .rules))) refl
 
 -- ---- declarations and the actor
 
 signed-finds : (n : Name) → Finds (flatSigned n) []
-unfolding flatSigned kindOf
+unfolding flatSigned nodeOf
 signed-finds n = quiet _ _ _ refl
 
 port-finds : (p : Port) → Finds (flatPort p) (declaredItems (p .type))
-unfolding flatPort kindOf
+unfolding flatPort nodeOf
 port-finds p = listed (append-nil _) (decl-finds (p .type) (starts-item _ _ _ refl) (quiet _ _ _ refl))
 
 size-starts : (z : Size) (p v : ℕ) → Starts (flatSize z ++ item MEMORY p v)
-unfolding flatSize kindOf
+unfolding flatSize nodeOf
 size-starts one p v = starts-item _ _ _ refl
 size-starts (cells n) p v = starts-more _ (starts-item _ _ _ refl)
 
 size-finds : (z : Size) (p v : ℕ) → Finds (flatSize z ++ item MEMORY p v) []
-unfolding flatSize kindOf
+unfolding flatSize nodeOf
 size-finds one p v = quiet _ _ _ refl
 size-finds (cells n) p v = ends _ _ _ (quiet _ _ _ refl) refl
 
@@ -105,7 +105,7 @@ unfolding flatMemory
 memory-finds m = spread (sym (append-assoc (flatD (m .type)) (flatSize (m .size)) _)) (listed (append-nil _) (decl-finds (m .type) (size-starts (m .size) _ _) (size-finds (m .size) _ _)))
 
 pub actor-finds : (a : Actor) → Finds (flatActor a) (actorItems a)
-unfolding flatActor actorItems statements kindOf
+unfolding flatActor actorItems statements nodeOf
 actor-finds a =
     listed whole (both (both (both (both (quiet _ _ _ refl) (many-quiet flatSigned signed-finds (a .signature))) (many flatPort (λ (p : Port). declaredItems (p .type)) port-finds (a .ports))) (many flatMemory (λ (m : Memory). declaredItems (m .type)) memory-finds (a .memories))) (many flatGroup (λ (g : Group). each (λ (r : Rule). each inStatement (r .body)) (g .rules)) group-finds (a .groups)))
   where

@@ -10,10 +10,11 @@ use Rattle.tape.specs.Tape.{item, flatT, flatB, flatA, flat, flats}
 use Rattle.placed.proofs.Every.{each-append}
 use Rattle.placed.proofs.Same as same
 use Rattle.placed.proofs.Same.{Same, is, equal, then}
-use Rattle.row08_types.specs.Walk.{kindOf, bare, seenFrom, test}
-use Rattle.row08_types.specs.declared.Kind.{Kind}
-use Rattle.row08_types.specs.declared.Kind.the-variants.{Other}
-use Rattle.row08_types.proofs.Scans.{Apart, apart-item, apart-type, kindsOnto}
+use Rattle.tape.specs.Nodes.{nodeOf}
+use Rattle.row08_types.specs.Walk.{bare, seenFrom, test}
+use Rattle.tape.specs.declared.Node.{Node}
+use Rattle.tape.specs.declared.Node.the-variants.{Other}
+use Rattle.row08_types.proofs.Scans.{Apart, apart-item, apart-type, nodesOnto}
 use Rattle.row08_types.proofs.Walks.{walked, placesT, whole-walk}
 
 -- the places that the walk finds in the types among some items
@@ -34,9 +35,9 @@ places-append x y = ap (each placesT) (types-append x y) ∙ each-append placesT
 -- ---- the walk over some numbers finds the places of these items
 
 pub record Finds (a : List ℕ) (x : List Item) : Type 0 where
-  pub after : List Kind → List Kind
+  pub after : List Node → List Node
   pub found : List ℕ
-  pub goes : (l : List Kind) (r : List ℕ) → walked l (a ++ r) ≡ found ++ walked (after l) r
+  pub goes : (l : List Node) (r : List ℕ) → walked l (a ++ r) ≡ found ++ walked (after l) r
   pub same : Same found (placesI x)
 
 pub told : {a : List ℕ} {x y : List Item} → Same (placesI x) (placesI y) → Finds a x → Finds a y
@@ -62,17 +63,17 @@ both {a} {b} {x} {y} d e =
     }
 
 -- an item of no type
-pub quiet : (o p v : ℕ) → kindOf o ≡ Other → Finds (item o p v) []
+pub quiet : (o p v : ℕ) → nodeOf o ≡ Other → Finds (item o p v) []
 unfolding walked each types test when
 quiet o p v e =
     record {
       after = λ l. Other ∷ l;
       found = [];
-      goes = λ l r. ap (λ (k : Kind). when (test l k v (seenFrom 0 bare r)) p ++ walked (k ∷ l) r) e;
+      goes = λ l r. ap (λ (k : Node). when (test l k v (seenFrom 0 bare r)) p ++ walked (k ∷ l) r) e;
       same = equal [];
     }
 
-pub ends : {a : List ℕ} {x : List Item} (o p v : ℕ) → Finds a x → kindOf o ≡ Other → Finds (a ++ item o p v) x
+pub ends : {a : List ℕ} {x : List Item} (o p v : ℕ) → Finds a x → nodeOf o ≡ Other → Finds (a ++ item o p v) x
 ends {x = x} o p v d e = listed (append-nil x) (both d (quiet o p v e))
 
 pub many : {T : Type 0} (fl : T → List ℕ) (its : T → List Item) → ((x : T) → Finds (fl x) (its x)) → (l : List T) → Finds (flats fl l) (each its l)
@@ -90,7 +91,7 @@ many-quiet fl d (x ∷ l) = both (d x) (many-quiet fl d l)
 pub record Starts (a : List ℕ) : Type 0 where
   pub on : (r : List ℕ) → Apart (a ++ r)
 
-pub starts-item : (o p v : ℕ) → kindOf o ≡ Other → Starts (item o p v)
+pub starts-item : (o p v : ℕ) → nodeOf o ≡ Other → Starts (item o p v)
 starts-item o p v e = record { on = λ r. apart-item o p v r e }
 
 pub starts-more : {a : List ℕ} (b : List ℕ) → Starts a → Starts (a ++ b)
@@ -103,16 +104,16 @@ pub typed : (t : Ty) {b : List ℕ} {y : List Item} → Starts b → Finds b y �
 unfolding each types
 typed t {b} s d =
     record {
-      after = λ l. d .after (kindsOnto t l);
+      after = λ l. d .after (nodesOnto t l);
       found = placesT t ++ d .found;
-      goes = λ l r. ap (walked l) (append-assoc (flatT t) b r) ∙ whole-walk t l (s .on r) ∙ ap (λ (z : List ℕ). placesT t ++ z) (d .goes (kindsOnto t l) r) ∙ sym (append-assoc (placesT t) (d .found) (walked (d .after (kindsOnto t l)) r));
+      goes = λ l r. ap (walked l) (append-assoc (flatT t) b r) ∙ whole-walk t l (s .on r) ∙ ap (λ (z : List ℕ). placesT t ++ z) (d .goes (nodesOnto t l) r) ∙ sym (append-assoc (placesT t) (d .found) (walked (d .after (nodesOnto t l)) r));
       same = same.beside (equal (placesT t)) (d .same);
     }
 
 -- ---- expressions
 
 pub expr-starts : (e : Expr) → Starts (flat e)
-unfolding flat flatB kindOf
+unfolding flat flatB nodeOf
 expr-starts (plain n) = starts-item _ _ _ refl
 expr-starts (sized (bits n) v) = starts-more _ (starts-item _ _ _ refl)
 expr-starts (sized (Breadth.typed p t) v) = starts-more _ (starts-type t (starts-item _ _ _ refl))
@@ -133,10 +134,10 @@ expr-starts (arm n e r) = starts-more _ (starts-more _ (expr-starts e))
 expr-starts (default p e) = starts-more _ (expr-starts e)
 
 -- a type at the end of an expression; two of them
-one-type : {a : List ℕ} {x : List Item} (t : Ty) (o p v : ℕ) → Finds a x → kindOf o ≡ Other → Finds ((a ++ flatT t) ++ item o p v) (x ++ (Item.type t ∷ []))
+one-type : {a : List ℕ} {x : List Item} (t : Ty) (o p v : ℕ) → Finds a x → nodeOf o ≡ Other → Finds ((a ++ flatT t) ++ item o p v) (x ++ (Item.type t ∷ []))
 one-type {a} t o p v d e = spread (sym (append-assoc a (flatT t) (item o p v))) (both d (typed t (starts-item o p v e) (quiet o p v e)))
 
-two-types : {a : List ℕ} {x : List Item} (s t : Ty) (o p v : ℕ) → Finds a x → kindOf o ≡ Other → Finds (((a ++ flatT s) ++ flatT t) ++ item o p v) (x ++ (Item.type s ∷ Item.type t ∷ []))
+two-types : {a : List ℕ} {x : List Item} (s t : Ty) (o p v : ℕ) → Finds a x → nodeOf o ≡ Other → Finds (((a ++ flatT s) ++ flatT t) ++ item o p v) (x ++ (Item.type s ∷ Item.type t ∷ []))
 two-types {a} s t o p v d e =
     spread (sym (append-assoc (a ++ flatT s) (flatT t) (item o p v) ∙ append-assoc a (flatT s) (flatT t ++ item o p v)))
     (both d (typed s (starts-type t (starts-item o p v e)) (typed t (starts-item o p v e) (quiet o p v e))))
@@ -145,17 +146,17 @@ three : {a b c : List ℕ} (x y z : List Item) → Finds a x → Finds b y → F
 three x y z d e f = listed (append-assoc x y z) (both (both d e) f)
 
 breadth-finds : (w : Breadth) → Finds (flatB w) (breadthItems w)
-unfolding flatB breadthItems kindOf
+unfolding flatB breadthItems nodeOf
 breadth-finds (bits n) = quiet _ _ _ refl
 breadth-finds (Breadth.typed p t) = typed t (starts-item _ _ _ refl) (quiet _ _ _ refl)
 
 amount-finds : (v : Amount) → Finds (flatA v) (amountItems v)
-unfolding flatA amountItems kindOf each types
+unfolding flatA amountItems nodeOf each types
 amount-finds (given n) = quiet _ _ _ refl
 amount-finds (value n) = told (equal []) (quiet _ _ _ refl)
 
 pub expr-finds : (e : Expr) → Finds (flat e) (items e)
-unfolding flat items kindOf each types
+unfolding flat items nodeOf each types
 expr-finds (plain n) = quiet _ _ _ refl
 expr-finds (sized w v) = both (breadth-finds w) (amount-finds v)
 expr-finds (copies n e) = told (equal (placesI (items e))) (ends _ _ _ (expr-finds e) refl)

@@ -9,9 +9,10 @@ use lib.ListN.{length, length-append}
 use Rattle.language.specs.Tree.{Ty, number, environment, port, plus, minus, log, ceil, floor, most, entry, within}
 use Rattle.language.specs.Types.{logs}
 use Rattle.tape.specs.Tape.{item, flatT, one-if, PLUS, MINUS, LOG, CEIL, FLOOR, MOST, ENTRY, WITHIN}
-use Rattle.row08_types.specs.Walk.{kindOf, isType, isZero, place, outerOf, outwardOf, waitingOf, seenFrom, tally, comingOf, countIn, countedOf, isDone, logsOver}
-use Rattle.row08_types.specs.declared.Kind.{Kind}
-use Rattle.row08_types.specs.declared.Kind.the-variants.{Number, Name, Port, Join, Minus, Log, Whole, Most, Within, Other}
+use Rattle.tape.specs.Nodes.{nodeOf}
+use Rattle.row08_types.specs.Walk.{isType, isZero, place, outerOf, outwardOf, waitingOf, seenFrom, tally, comingOf, countIn, countedOf, isDone, logsOver}
+use Rattle.tape.specs.declared.Node.{Node}
+use Rattle.tape.specs.declared.Node.the-variants.{Number, Name, Port, Join, Minus, Log, Whole, Most, Within, Other}
 use Rattle.row08_types.specs.declared.Around.{Around}
 
 one-less : (n : ℕ) → suc n - 1 ≡ n
@@ -29,7 +30,7 @@ pass-both {n} {a = a} {b = b} d e = record { on = λ s r. ap (seenFrom n s) (app
 pass-item : (o p v n m : ℕ) → ((s : Around) (r : List ℕ) → seenFrom n s (item o p v ++ r) ≡ seenFrom m s r) → Passes n (item o p v) m
 pass-item o p v n m e = record { on = e }
 
-leaf-keeps : (n : ℕ) (s : Around) (k : Kind) → outerOf s k ≡ s → outwardOf n s k ≡ s
+leaf-keeps : (n : ℕ) (s : Around) (k : Node) → outerOf s k ≡ s → outwardOf n s k ≡ s
 unfolding outwardOf isZero
 leaf-keeps n s k e = go (isZero n)
   where
@@ -38,7 +39,7 @@ leaf-keeps n s k e = go (isZero n)
     go false = refl
 
 pub type-passes : (t : Ty) (n : ℕ) → Passes n (flatT t) (suc n)
-unfolding flatT seenFrom kindOf isType waitingOf outwardOf outerOf isZero
+unfolding flatT seenFrom nodeOf isType waitingOf outwardOf outerOf isZero
 type-passes (number x) n = record { on = λ s r. rw (leaf-keeps n s Number refl, add-one n) }
 type-passes (environment x) n = record { on = λ s r. rw (leaf-keeps n s Name refl, add-one n) }
 type-passes (port x) n = record { on = λ s r. rw (leaf-keeps n s Port refl, add-one n) }
@@ -51,16 +52,16 @@ type-passes (most p a) n = pass-both (type-passes a n) (pass-item MOST p 0 (suc 
 type-passes (entry a b) n = pass-both (pass-both (type-passes a n) (type-passes b (suc n))) (pass-item ENTRY 0 0 (suc (suc n)) (suc n) (λ s r. ap (λ (k : ℕ). seenFrom k s r) (one-less (suc n))))
 type-passes (within p a) n = pass-both (type-passes a n) (pass-item WITHIN p 0 (suc n) (suc n) (λ s r. refl))
 
--- an item of a kind
-seen-at : (n : ℕ) (s : Around) (o p v : ℕ) (r : List ℕ) {k : Kind} → kindOf o ≡ k → seenFrom n s (item o p v ++ r) ≡ elim (isType k) as (λ (x : Bool). Around) [ true ↦ seenFrom (waitingOf n k) (outwardOf n s k) r | false ↦ s ]
+-- an item of a node
+seen-at : (n : ℕ) (s : Around) (o p v : ℕ) (r : List ℕ) {k : Node} → nodeOf o ≡ k → seenFrom n s (item o p v ++ r) ≡ elim (isType k) as (λ (x : Bool). Around) [ true ↦ seenFrom (waitingOf n k) (outwardOf n s k) r | false ↦ s ]
 unfolding seenFrom
-seen-at n s o p v r e = ap (λ (k : Kind). elim (isType k) as (λ (x : Bool). Around) [ true ↦ seenFrom (waitingOf n k) (outwardOf n s k) r | false ↦ s ]) e
+seen-at n s o p v r e = ap (λ (k : Node). elim (isType k) as (λ (x : Bool). Around) [ true ↦ seenFrom (waitingOf n k) (outwardOf n s k) r | false ↦ s ]) e
 
 -- what follows says nothing of a type before it
 pub record Apart (r : List ℕ) : Type 0 where
   pub on : (n : ℕ) (s : Around) → seenFrom n s r ≡ s
 
-pub apart-item : (o p v : ℕ) (r : List ℕ) → kindOf o ≡ Other → Apart (item o p v ++ r)
+pub apart-item : (o p v : ℕ) (r : List ℕ) → nodeOf o ≡ Other → Apart (item o p v ++ r)
 unfolding seenFrom isType
 apart-item o p v r e = record { on = λ n s. seen-at n s o p v r e }
 
@@ -104,12 +105,12 @@ stands-apart d =
 
 module _ {r : List ℕ} {low after nested : Bool} {m : ℕ} {near : Bool} (h : ScanStands r low after nested m near) where
   -- the first of two
-  pub stands-left : (t : Ty) (o : ℕ) → (kindOf o ≡ Join) → ScanStands (flatT t ++ (item o 0 0 ++ r)) low after nested m near
+  pub stands-left : (t : Ty) (o : ℕ) → (nodeOf o ≡ Join) → ScanStands (flatT t ++ (item o 0 0 ++ r)) low after nested m near
   unfolding seenFrom isType waitingOf outwardOf isZero
   stands-left t o e = record { on = λ l a i n w. type-passes t 0 .on _ _ ∙ seen-at 1 (place l a i n w) o 0 0 r e ∙ h .on l a i n w }
 
   pub stands-before-minus : (t : Ty) → ScanStands (flatT t ++ (item MINUS 0 0 ++ r)) low after nested m near
-  unfolding seenFrom isType waitingOf outwardOf kindOf isZero
+  unfolding seenFrom isType waitingOf outwardOf nodeOf isZero
   stands-before-minus t = record { on = λ l a i n w. type-passes t 0 .on _ _ ∙ h .on l a i n w }
 
   one-more : (n : ℕ) (w : Bool) → (n + one-if w) + picked w m ≡ n + picked w (suc m)
@@ -118,12 +119,12 @@ module _ {r : List ℕ} {low after nested : Bool} {m : ℕ} {near : Bool} (h : S
   one-more n false = omega arith
 
   -- the second
-  pub stands-right : (o : ℕ) → (kindOf o ≡ Join) → ScanStands (item o 0 0 ++ r) low after nested (suc m) near
+  pub stands-right : (o : ℕ) → (nodeOf o ≡ Join) → ScanStands (item o 0 0 ++ r) low after nested (suc m) near
   unfolding seenFrom isType waitingOf outwardOf outerOf isZero
   stands-right o e = record { on = λ l a i n w. seen-at 0 (place l a i n w) o 0 0 r e ∙ h .on l a i (n + one-if w) w ∙ (let k = one-more n w in cc) }
 
   pub stands-after-minus : ScanStands (item MINUS 0 0 ++ r) true true nested (suc m) near
-  unfolding seenFrom isType waitingOf outwardOf outerOf kindOf isZero
+  unfolding seenFrom isType waitingOf outwardOf outerOf nodeOf isZero
   stands-after-minus = record { on = λ l a i n w. h .on true true i (n + one-if w) w ∙ (let k = one-more n w in let p = or-true l in let q = or-true a in cc) }
 
   in-log : (i w : Bool) → ((i || w) || (w && nested)) ≡ (i || (w && true))
@@ -132,59 +133,59 @@ module _ {r : List ℕ} {low after nested : Bool} {m : ℕ} {near : Bool} (h : S
   in-log false false = refl
 
   pub stands-log : (p : ℕ) → ScanStands (item LOG p 0 ++ r) true after true m near
-  unfolding seenFrom isType waitingOf outwardOf outerOf kindOf isZero
+  unfolding seenFrom isType waitingOf outwardOf outerOf nodeOf isZero
   stands-log p = record { on = λ l a i n w. h .on true a (i || w) n w ∙ (let q = or-true l in let x = in-log i w in cc) }
 
-  pub stands-whole : (o p : ℕ) → kindOf o ≡ Whole → ScanStands (item o p 0 ++ r) true after false 0 false
+  pub stands-whole : (o p : ℕ) → nodeOf o ≡ Whole → ScanStands (item o p 0 ++ r) true after false 0 false
   unfolding seenFrom isType waitingOf outwardOf outerOf isZero
   stands-whole o p e = record { on = λ l a i n w. seen-at 0 (place l a i n w) o p 0 r e ∙ h .on true a i n false ∙ (let q = or-true l in let x = and-false w in let y = picked-none w in cc) }
 
   pub stands-most : (p : ℕ) → ScanStands (item MOST p 0 ++ r) true after nested m near
-  unfolding seenFrom isType waitingOf outwardOf outerOf kindOf isZero
+  unfolding seenFrom isType waitingOf outwardOf outerOf nodeOf isZero
   stands-most p = record { on = λ l a i n w. h .on true a i n w ∙ (let q = or-true l in cc) }
 
   pub stands-within : (p : ℕ) → ScanStands (item WITHIN p 0 ++ r) low after nested m near
-  unfolding seenFrom isType waitingOf outwardOf outerOf kindOf isZero
+  unfolding seenFrom isType waitingOf outwardOf outerOf nodeOf isZero
   stands-within p = record { on = λ l a i n w. h .on l a i n w }
 
 -- ---- back
 
 -- the kinds of a type's items put before others, the last one first
-unfoldable pub kindsOnto : Ty → List Kind → List Kind
-kindsOnto (number n) l = Number ∷ l
-kindsOnto (environment n) l = Name ∷ l
-kindsOnto (port n) l = Port ∷ l
-kindsOnto (plus a b) l = Join ∷ kindsOnto b (kindsOnto a l)
-kindsOnto (minus a b) l = Minus ∷ kindsOnto b (kindsOnto a l)
-kindsOnto (log p a) l = Log ∷ kindsOnto a l
-kindsOnto (ceil p a) l = Whole ∷ kindsOnto a l
-kindsOnto (floor p a) l = Whole ∷ kindsOnto a l
-kindsOnto (most p a) l = Most ∷ kindsOnto a l
-kindsOnto (entry a b) l = Join ∷ kindsOnto b (kindsOnto a l)
-kindsOnto (within p a) l = Within ∷ kindsOnto a l
+unfoldable pub nodesOnto : Ty → List Node → List Node
+nodesOnto (number n) l = Number ∷ l
+nodesOnto (environment n) l = Name ∷ l
+nodesOnto (port n) l = Port ∷ l
+nodesOnto (plus a b) l = Join ∷ nodesOnto b (nodesOnto a l)
+nodesOnto (minus a b) l = Minus ∷ nodesOnto b (nodesOnto a l)
+nodesOnto (log p a) l = Log ∷ nodesOnto a l
+nodesOnto (ceil p a) l = Whole ∷ nodesOnto a l
+nodesOnto (floor p a) l = Whole ∷ nodesOnto a l
+nodesOnto (most p a) l = Most ∷ nodesOnto a l
+nodesOnto (entry a b) l = Join ∷ nodesOnto b (nodesOnto a l)
+nodesOnto (within p a) l = Within ∷ nodesOnto a l
 
-pub passed-over : (t : Ty) (l : List Kind) (a n c : ℕ) → logsOver (tally (suc a) n c) (kindsOnto t l) ≡ logsOver (tally a n c) l
-unfolding kindsOnto logsOver isDone countedOf comingOf isZero
+pub passed-over : (t : Ty) (l : List Node) (a n c : ℕ) → logsOver (tally (suc a) n c) (nodesOnto t l) ≡ logsOver (tally a n c) l
+unfolding nodesOnto logsOver isDone countedOf comingOf isZero
 passed-over (number x) l a n c = ap (λ (k : ℕ). logsOver (tally k n c) l) (one-less a)
 passed-over (environment x) l a n c = ap (λ (k : ℕ). logsOver (tally k n c) l) (one-less a)
 passed-over (port x) l a n c = ap (λ (k : ℕ). logsOver (tally k n c) l) (one-less a)
-passed-over (plus x y) l a n c = rw (add-one (suc a)) (passed-over y (kindsOnto x l) (suc a) n c) ∙ passed-over x l a n c
-passed-over (minus x y) l a n c = rw (add-one (suc a)) (passed-over y (kindsOnto x l) (suc a) n c) ∙ passed-over x l a n c
+passed-over (plus x y) l a n c = rw (add-one (suc a)) (passed-over y (nodesOnto x l) (suc a) n c) ∙ passed-over x l a n c
+passed-over (minus x y) l a n c = rw (add-one (suc a)) (passed-over y (nodesOnto x l) (suc a) n c) ∙ passed-over x l a n c
 passed-over (log p x) l a n c = passed-over x l a n c
 passed-over (ceil p x) l a n c = passed-over x l a n c
 passed-over (floor p x) l a n c = passed-over x l a n c
 passed-over (most p x) l a n c = passed-over x l a n c
-passed-over (entry x y) l a n c = rw (add-one (suc a)) (passed-over y (kindsOnto x l) (suc a) n c) ∙ passed-over x l a n c
+passed-over (entry x y) l a n c = rw (add-one (suc a)) (passed-over y (nodesOnto x l) (suc a) n c) ∙ passed-over x l a n c
 passed-over (within p x) l a n c = passed-over x l a n c
 
-two-in : (x y : Ty) (l : List Kind) (n c : ℕ)
-    → ((l : List Kind) (n c : ℕ) → logsOver (tally 0 (suc n) c) (kindsOnto x l) ≡ logsOver (tally 0 n (c + length (logs x))) l)
-    → ((l : List Kind) (n c : ℕ) → logsOver (tally 0 (suc n) c) (kindsOnto y l) ≡ logsOver (tally 0 n (c + length (logs y))) l)
-    → logsOver (tally 0 (suc n + 1) c) (kindsOnto y (kindsOnto x l)) ≡ logsOver (tally 0 n (c + length (logs x ++ logs y))) l
-two-in x y l n c f g = rw (add-one (suc n)) (g (kindsOnto x l) (suc n) c ∙ f l n (c + length (logs y)) ∙ ap (λ (k : ℕ). logsOver (tally 0 n k) l) (let e = length-append (logs x) (logs y) in omega arith))
+two-in : (x y : Ty) (l : List Node) (n c : ℕ)
+    → ((l : List Node) (n c : ℕ) → logsOver (tally 0 (suc n) c) (nodesOnto x l) ≡ logsOver (tally 0 n (c + length (logs x))) l)
+    → ((l : List Node) (n c : ℕ) → logsOver (tally 0 (suc n) c) (nodesOnto y l) ≡ logsOver (tally 0 n (c + length (logs y))) l)
+    → logsOver (tally 0 (suc n + 1) c) (nodesOnto y (nodesOnto x l)) ≡ logsOver (tally 0 n (c + length (logs x ++ logs y))) l
+two-in x y l n c f g = rw (add-one (suc n)) (g (nodesOnto x l) (suc n) c ∙ f l n (c + length (logs y)) ∙ ap (λ (k : ℕ). logsOver (tally 0 n k) l) (let e = length-append (logs x) (logs y) in omega arith))
 
-pub counted-in : (t : Ty) (l : List Kind) (n c : ℕ) → logsOver (tally 0 (suc n) c) (kindsOnto t l) ≡ logsOver (tally 0 n (c + length (logs t))) l
-unfolding kindsOnto logsOver isDone countedOf countIn comingOf logs isZero
+pub counted-in : (t : Ty) (l : List Node) (n c : ℕ) → logsOver (tally 0 (suc n) c) (nodesOnto t l) ≡ logsOver (tally 0 n (c + length (logs t))) l
+unfolding nodesOnto logsOver isDone countedOf countIn comingOf logs isZero
 counted-in (number x) l n c = ap₂ (λ (m k : ℕ). logsOver (tally 0 m k) l) (one-less n) (omega arith)
 counted-in (environment x) l n c = ap₂ (λ (m k : ℕ). logsOver (tally 0 m k) l) (one-less n) (omega arith)
 counted-in (port x) l n c = ap₂ (λ (m k : ℕ). logsOver (tally 0 m k) l) (one-less n) (omega arith)
@@ -198,16 +199,16 @@ counted-in (entry x y) l n c = two-in x y l n c (counted-in x) (counted-in y)
 counted-in (within p x) l n c = counted-in x l n c
 
 -- so many logs stand in the types before
-pub record Before (l : List Kind) (m k : ℕ) : Type 0 where
+pub record Before (l : List Node) (m k : ℕ) : Type 0 where
   pub on : (c : ℕ) → logsOver (tally 0 m c) l ≡ c + k
 
-pub before-none : (l : List Kind) → Before l 0 0
+pub before-none : (l : List Node) → Before l 0 0
 unfolding logsOver isDone isZero
 before-none l = record { on = λ c. go l c }
   where
-    go : (l : List Kind) (c : ℕ) → logsOver (tally 0 0 c) l ≡ c + 0
+    go : (l : List Node) (c : ℕ) → logsOver (tally 0 0 c) l ≡ c + 0
     go [] c = omega arith
     go (k ∷ l) c = omega arith
 
-pub before-more : (t : Ty) {l : List Kind} {m k : ℕ} → Before l m k → Before (kindsOnto t l) (suc m) (k + length (logs t))
+pub before-more : (t : Ty) {l : List Node} {m k : ℕ} → Before l m k → Before (nodesOnto t l) (suc m) (k + length (logs t))
 before-more t {l} {m} {k} h = record { on = λ c. counted-in t l m c ∙ h .on (c + length (logs t)) ∙ omega arith }

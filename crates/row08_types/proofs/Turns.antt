@@ -1,4 +1,4 @@
--- What the last arm of a `match` knows of a kind, how far the counts grow with an item, and the turns of the two scans. Assumes nothing.
+-- What the last arm of a `match` knows of a node, how far the counts grow with an item, and the turns of the two scans. Assumes nothing.
 use mathlib.Core.Path.{_≡_, refl, sym, ap, _∙_}
 use mathlib.Core.Bool.{Bool, true, false, not, _||_}
 use mathlib.Core.List.{List, [], _∷_}
@@ -15,19 +15,20 @@ use Rattle.language.specs.Types.{together}
 use Rattle.tape.specs.Tape.{one-if}
 use Rattle.tape.specs.Walk.{opAt, valueAt}
 use Rattle.tape.proofs.Tapes.{item-at}
-use Rattle.row08_types.specs.Walk.{kindOf, isType, isZero, outerOf, outwardOf, waitingOf, seenFrom, tally, comingOf, countIn, countedOf, isDone, logsOver, kindsBefore, bare, passing, logFaulty, test, faulty}
-use Rattle.row08_types.specs.declared.Kind.{Kind}
-use Rattle.row08_types.specs.declared.Kind.the-variants.{Number, Name, Port, Join, Minus, Log, Whole, Most, Within, Other}
+use Rattle.tape.specs.Nodes.{nodeOf}
+use Rattle.row08_types.specs.Walk.{isType, isZero, outerOf, outwardOf, waitingOf, seenFrom, tally, comingOf, countIn, countedOf, isDone, logsOver, nodesBefore, bare, passing, logFaulty, test, faulty}
+use Rattle.tape.specs.declared.Node.{Node}
+use Rattle.tape.specs.declared.Node.the-variants.{Number, Name, Port, Join, Minus, Log, Whole, Most, Within, Other}
 use Rattle.row08_types.specs.declared.Around.{Around}
 use Rattle.row08_types.specs.declared.Count.{Count}
-use Rattle.row08_types.proofs.Kind as kind
+use Rattle.tape.proofs.Node as node
 
 -- ---- the last arm
 
 abbrev inTypes : List ℕ
 inTypes = 0 ∷ 1 ∷ 2 ∷ 3 ∷ 4 ∷ 5 ∷ 6 ∷ 7 ∷ 8 ∷ []
 
-pub in-types : (k : Kind) → OneOf inTypes (tagOf kind.the-type k) → true ≡ isType k
+pub in-types : (k : Node) → OneOf inTypes (tagOf node.the-type k) → true ≡ isType k
 unfolding isType
 in-types Number h = refl
 in-types Name h = refl
@@ -43,7 +44,7 @@ in-types Other h = absurd (miss inTypes 9 tt h)
 abbrev notOuter : List ℕ
 notOuter = 0 ∷ 1 ∷ 2 ∷ 8 ∷ 9 ∷ []
 
-pub not-outer : (s : Around) (k : Kind) → OneOf notOuter (tagOf kind.the-type k) → s ≡ outerOf s k
+pub not-outer : (s : Around) (k : Node) → OneOf notOuter (tagOf node.the-type k) → s ≡ outerOf s k
 unfolding outerOf
 not-outer s Number h = refl
 not-outer s Name h = refl
@@ -59,7 +60,7 @@ not-outer s Other h = refl
 abbrev notJoined : List ℕ
 notJoined = 5 ∷ 6 ∷ 7 ∷ 8 ∷ 9 ∷ []
 
-pub not-joined : (n : ℕ) (k : Kind) → OneOf notJoined (tagOf kind.the-type k) → (n ≡ waitingOf n k) × (n ≡ comingOf n k)
+pub not-joined : (n : ℕ) (k : Node) → OneOf notJoined (tagOf node.the-type k) → (n ≡ waitingOf n k) × (n ≡ comingOf n k)
 unfolding waitingOf comingOf
 not-joined n Number h = absurd (miss notJoined 0 tt h)
 not-joined n Name h = absurd (miss notJoined 1 tt h)
@@ -75,7 +76,7 @@ not-joined n Other h = (refl, refl)
 abbrev notCounted : List ℕ
 notCounted = 0 ∷ 1 ∷ 2 ∷ 3 ∷ 4 ∷ 7 ∷ 8 ∷ 9 ∷ []
 
-pub not-counted : (s : Count) (k : Kind) → OneOf notCounted (tagOf kind.the-type k) → tally 0 (comingOf (s .need) k) (s .logs) ≡ countIn s k
+pub not-counted : (s : Count) (k : Node) → OneOf notCounted (tagOf node.the-type k) → tally 0 (comingOf (s .need) k) (s .logs) ≡ countIn s k
 unfolding comingOf countIn
 not-counted s Number h = refl
 not-counted s Name h = refl
@@ -91,7 +92,7 @@ not-counted s Other h = refl
 abbrev notTested : List ℕ
 notTested = 1 ∷ 3 ∷ 4 ∷ 6 ∷ 8 ∷ 9 ∷ []
 
-not-tested : (ks : List Kind) (k : Kind) (v : ℕ) (s : Around) → OneOf notTested (tagOf kind.the-type k) → false ≡ test ks k v s
+not-tested : (ks : List Node) (k : Node) (v : ℕ) (s : Around) → OneOf notTested (tagOf node.the-type k) → false ≡ test ks k v s
 unfolding test
 not-tested ks Number v s h = absurd (miss notTested 0 tt h)
 not-tested ks Name v s h = refl
@@ -122,7 +123,7 @@ zero-eqb (suc n) = eqb·suc-zero n
 
 -- ---- how far the counts grow
 
-pub waiting-most : (n : ℕ) (k : Kind) → waitingOf n k ≤ n + 1
+pub waiting-most : (n : ℕ) (k : Node) → waitingOf n k ≤ n + 1
 unfolding waitingOf
 waiting-most n Number = omega arith
 waiting-most n Name = omega arith
@@ -135,7 +136,7 @@ waiting-most n Most = omega arith
 waiting-most n Within = omega arith
 waiting-most n Other = omega arith
 
-pub coming-most : (n : ℕ) (k : Kind) → comingOf n k ≤ n + 1
+pub coming-most : (n : ℕ) (k : Node) → comingOf n k ≤ n + 1
 unfolding comingOf
 coming-most n Number = omega arith
 coming-most n Name = omega arith
@@ -153,7 +154,7 @@ unfolding one-if
 one-most true = omega arith
 one-most false = omega arith
 
-lefts-outer : (s : Around) (k : Kind) → outerOf s k .lefts ≤ s .lefts + 1
+lefts-outer : (s : Around) (k : Node) → outerOf s k .lefts ≤ s .lefts + 1
 unfolding outerOf
 lefts-outer s Number = omega arith
 lefts-outer s Name = omega arith
@@ -166,7 +167,7 @@ lefts-outer s Most = omega arith
 lefts-outer s Within = omega arith
 lefts-outer s Other = omega arith
 
-pub lefts-most : (n : ℕ) (s : Around) (k : Kind) → outwardOf n s k .lefts ≤ s .lefts + 1
+pub lefts-most : (n : ℕ) (s : Around) (k : Node) → outwardOf n s k .lefts ≤ s .lefts + 1
 unfolding outwardOf isZero
 lefts-most zero s k = lefts-outer s k
 lefts-most (suc n) s k = omega arith
@@ -174,7 +175,7 @@ lefts-most (suc n) s k = omega arith
 abbrev sum : Count → ℕ
 sum s = s .aside + s .need + s .logs
 
-module _ (s : Count) (k : Kind) where
+module _ (s : Count) (k : Node) where
   pub counted-aside : 0 < s .aside → {a : ℕ} → a ≡ comingOf (s .aside) k → (tally a (s .need) (s .logs) ≡ countedOf s k) × (a + s .need + s .logs ≤ sum s + 1)
   unfolding countedOf
   counted-aside h {a} e = (ap (λ (n : ℕ). tally n (s .need) (s .logs)) e ∙ sym (ap (λ (b : Bool). elim b as (λ (x : Bool). Count) [ true ↦ countIn s k | false ↦ tally (comingOf (s .aside) k) (s .need) (s .logs) ]) (zero-not (s .aside) (λ z. omega arith))), let m = coming-most (s .aside) k in omega arith)
@@ -194,15 +195,15 @@ module _ (s : Count) (k : Kind) where
 -- ---- the turns of the scans
 
 module _ (t : List ℕ) (n i w : ℕ) (s : Around) (k : n ≤ length t) where
-  here : i < n / 3 → seenFrom w s (drop (3 * i) (take n t)) ≡ elim (isType (kindOf (opAt t i))) as (λ (x : Bool). Around) [ true ↦ seenFrom (waitingOf w (kindOf (opAt t i))) (outwardOf w s (kindOf (opAt t i))) (drop (3 * suc i) (take n t)) | false ↦ s ]
+  here : i < n / 3 → seenFrom w s (drop (3 * i) (take n t)) ≡ elim (isType (nodeOf (opAt t i))) as (λ (x : Bool). Around) [ true ↦ seenFrom (waitingOf w (nodeOf (opAt t i))) (outwardOf w s (nodeOf (opAt t i))) (drop (3 * suc i) (take n t)) | false ↦ s ]
   unfolding seenFrom
   here h = ap (seenFrom w s) (item-at t n i (omega arith) k)
 
-  pub seen-more : i < n / 3 → {q : Kind} → q ≡ kindOf (opAt t i) → isType q ≡ true → {v : ℕ} {r : Around} → v ≡ waitingOf w q → r ≡ outwardOf w s q → seenFrom v r (drop (3 * (i + 1)) (take n t)) ≡ seenFrom w s (drop (3 * i) (take n t))
-  seen-more h {q} e f g j = rw (add-one i, g, j, e) (sym (here h ∙ ap (λ (b : Bool). elim b as (λ (x : Bool). Around) [ true ↦ seenFrom (waitingOf w (kindOf (opAt t i))) (outwardOf w s (kindOf (opAt t i))) (drop (3 * suc i) (take n t)) | false ↦ s ]) (ap isType (sym e) ∙ f)))
+  pub seen-more : i < n / 3 → {q : Node} → q ≡ nodeOf (opAt t i) → isType q ≡ true → {v : ℕ} {r : Around} → v ≡ waitingOf w q → r ≡ outwardOf w s q → seenFrom v r (drop (3 * (i + 1)) (take n t)) ≡ seenFrom w s (drop (3 * i) (take n t))
+  seen-more h {q} e f g j = rw (add-one i, g, j, e) (sym (here h ∙ ap (λ (b : Bool). elim b as (λ (x : Bool). Around) [ true ↦ seenFrom (waitingOf w (nodeOf (opAt t i))) (outwardOf w s (nodeOf (opAt t i))) (drop (3 * suc i) (take n t)) | false ↦ s ]) (ap isType (sym e) ∙ f)))
 
-  pub seen-stop : i < n / 3 → {q : Kind} → q ≡ kindOf (opAt t i) → isType q ≡ false → s ≡ seenFrom w s (drop (3 * i) (take n t))
-  seen-stop h {q} e f = sym (here h ∙ ap (λ (b : Bool). elim b as (λ (x : Bool). Around) [ true ↦ seenFrom (waitingOf w (kindOf (opAt t i))) (outwardOf w s (kindOf (opAt t i))) (drop (3 * suc i) (take n t)) | false ↦ s ]) (ap isType (sym e) ∙ f))
+  pub seen-stop : i < n / 3 → {q : Node} → q ≡ nodeOf (opAt t i) → isType q ≡ false → s ≡ seenFrom w s (drop (3 * i) (take n t))
+  seen-stop h {q} e f = sym (here h ∙ ap (λ (b : Bool). elim b as (λ (x : Bool). Around) [ true ↦ seenFrom (waitingOf w (nodeOf (opAt t i))) (outwardOf w s (nodeOf (opAt t i))) (drop (3 * suc i) (take n t)) | false ↦ s ]) (ap isType (sym e) ∙ f))
 
   few : (r : List ℕ) → length r ≤ 2 → s ≡ seenFrom w s r
   unfolding seenFrom
@@ -214,25 +215,25 @@ module _ (t : List ℕ) (n i w : ℕ) (s : Around) (k : n ≤ length t) where
   pub seen-end : n / 3 ≤ i → s ≡ seenFrom w s (drop (3 * i) (take n t))
   seen-end h = few (drop (3 * i) (take n t)) (let a = length-drop (3 * i) (take n t) in let b = length-take n t in omega arith)
 
-pub logs-stop : (s : Count) (ks : List Kind) → isDone s ≡ true → s .logs ≡ logsOver s ks
+pub logs-stop : (s : Count) (ks : List Node) → isDone s ≡ true → s .logs ≡ logsOver s ks
 unfolding logsOver
 logs-stop s [] e = refl
 logs-stop s (k ∷ ks) e = sym (ap (λ (b : Bool). elim b as (λ (x : Bool). ℕ) [ true ↦ s .logs | false ↦ logsOver (countedOf s k) ks ]) e)
 
-pub logs-end : (s : Count) (t : List ℕ) {i : ℕ} → i ≡ 0 → s .logs ≡ logsOver s (kindsBefore t i)
-unfolding logsOver kindsBefore
+pub logs-end : (s : Count) (t : List ℕ) {i : ℕ} → i ≡ 0 → s .logs ≡ logsOver s (nodesBefore t i)
+unfolding logsOver nodesBefore
 logs-end s t e = rw e
 
-pub logs-more : (s : Count) (t : List ℕ) (i : ℕ) → 0 < i → isDone s ≡ false → {q : Kind} → q ≡ kindOf (opAt t (i - 1)) → {r : Count} → r ≡ countedOf s q → logsOver r (kindsBefore t (i - 1)) ≡ logsOver s (kindsBefore t i)
-unfolding logsOver kindsBefore
-logs-more s t i h d {q} e {r} g = ap (λ (c : Count). logsOver c (kindsBefore t (i - 1))) (g ∙ ap (countedOf s) e) ∙ sym (ap (λ (j : ℕ). logsOver s (kindsBefore t j)) z ∙ ap (λ (b : Bool). elim b as (λ (x : Bool). ℕ) [ true ↦ s .logs | false ↦ logsOver (countedOf s (kindOf (opAt t (i - 1)))) (kindsBefore t (i - 1)) ]) d)
+pub logs-more : (s : Count) (t : List ℕ) (i : ℕ) → 0 < i → isDone s ≡ false → {q : Node} → q ≡ nodeOf (opAt t (i - 1)) → {r : Count} → r ≡ countedOf s q → logsOver r (nodesBefore t (i - 1)) ≡ logsOver s (nodesBefore t i)
+unfolding logsOver nodesBefore
+logs-more s t i h d {q} e {r} g = ap (λ (c : Count). logsOver c (nodesBefore t (i - 1))) (g ∙ ap (countedOf s) e) ∙ sym (ap (λ (j : ℕ). logsOver s (nodesBefore t j)) z ∙ ap (λ (b : Bool). elim b as (λ (x : Bool). ℕ) [ true ↦ s .logs | false ↦ logsOver (countedOf s (nodeOf (opAt t (i - 1)))) (nodesBefore t (i - 1)) ]) d)
   where
     z : i ≡ suc (i - 1)
     z = omega arith
 
 -- ---- the tests
 
-module _ (ks : List Kind) {s r : Around} (e : s ≡ r) where
+module _ (ks : List Node) {s r : Around} (e : s ≡ r) where
   pub log-in : s .in_log ≡ true → true ≡ logFaulty ks r
   unfolding logFaulty
   log-in h = sym (ap (λ (b : Bool). b || leb together (logsOver (passing (s .lefts)) ks)) h) ∙ ap (logFaulty ks) e
@@ -248,25 +249,25 @@ over v m = go (leb v m) refl
     go true e = le-ltb m v (leb-true v m e)
     go false e = lt-ltb m v (leb-false v m e)
 
-module _ (t : List ℕ) (n i : ℕ) {q : Kind} (e : q ≡ kindOf (opAt t i)) where
-  as-kind : {k : Kind} → q ≡ k → test (kindsBefore t i) k (valueAt t i) (seenFrom 0 bare (drop (3 * (i + 1)) (take n t))) ≡ faulty t n i
-  as-kind f = ap (λ (k : Kind). test (kindsBefore t i) k (valueAt t i) (seenFrom 0 bare (drop (3 * (i + 1)) (take n t)))) (sym f ∙ e)
+module _ (t : List ℕ) (n i : ℕ) {q : Node} (e : q ≡ nodeOf (opAt t i)) where
+  as-node : {k : Node} → q ≡ k → test (nodesBefore t i) k (valueAt t i) (seenFrom 0 bare (drop (3 * (i + 1)) (take n t))) ≡ faulty t n i
+  as-node f = ap (λ (k : Node). test (nodesBefore t i) k (valueAt t i) (seenFrom 0 bare (drop (3 * (i + 1)) (take n t)))) (sym f ∙ e)
 
   pub number-test : q ≡ Number → ltb (limits .typeNumber) (valueAt t i) ≡ faulty t n i
   unfolding test
-  number-test f = over (valueAt t i) (limits .typeNumber) ∙ as-kind f
+  number-test f = over (valueAt t i) (limits .typeNumber) ∙ as-node f
 
   pub port-test : q ≡ Port → {s : Around} → s ≡ seenFrom 0 bare (drop (3 * (i + 1)) (take n t)) → s .after ≡ faulty t n i
   unfolding test
-  port-test f g = ap (λ (a : Around). a .after) g ∙ as-kind f
+  port-test f g = ap (λ (a : Around). a .after) g ∙ as-node f
 
   pub most-test : q ≡ Most → {s : Around} → s ≡ seenFrom 0 bare (drop (3 * (i + 1)) (take n t)) → s .low ≡ faulty t n i
   unfolding test
-  most-test f g = ap (λ (a : Around). a .low) g ∙ as-kind f
+  most-test f g = ap (λ (a : Around). a .low) g ∙ as-node f
 
-  pub log-test : q ≡ Log → {b : Bool} → b ≡ logFaulty (kindsBefore t i) (seenFrom 0 bare (drop (3 * (i + 1)) (take n t))) → b ≡ faulty t n i
+  pub log-test : q ≡ Log → {b : Bool} → b ≡ logFaulty (nodesBefore t i) (seenFrom 0 bare (drop (3 * (i + 1)) (take n t))) → b ≡ faulty t n i
   unfolding test
-  log-test f g = g ∙ as-kind f
+  log-test f g = g ∙ as-node f
 
-  pub no-test : OneOf notTested (tagOf kind.the-type q) → false ≡ faulty t n i
-  no-test h = not-tested (kindsBefore t i) q (valueAt t i) _ h ∙ as-kind refl
+  pub no-test : OneOf notTested (tagOf node.the-type q) → false ≡ faulty t n i
+  no-test h = not-tested (nodesBefore t i) q (valueAt t i) _ h ∙ as-node refl

@@ -7,46 +7,15 @@ use lib.ListN.{take, drop}
 use Rattle.language.specs.Limits.{limits}
 use Rattle.language.specs.Names.{when}
 use Rattle.language.specs.Types.{together}
-use Rattle.tape.specs.Tape.{NUMBER, ENVIRONMENT, PORT, PLUS, MINUS, LOG, CEIL, FLOOR, MOST, ENTRY, WITHIN, one-if}
-use Rattle.tape.specs.Walk.{opAt, placeAt, valueAt}
-use Rattle.row08_types.specs.declared.Kind.{Kind}
-use Rattle.row08_types.specs.declared.Kind.the-variants.{Number, Name, Port, Join, Minus, Log, Whole, Most, Within, Other}
+use Rattle.tape.specs.Nodes.{nodeOf}
+use Rattle.tape.specs.Tape.{one-if}
+use Rattle.tape.specs.Walk.{opAt, placeAt, valueAt, marked}
+use Rattle.tape.specs.declared.Node.{Node}
+use Rattle.tape.specs.declared.Node.the-variants.{Number, Name, Port, Join, Minus, Log, Whole, Most, Within, Other}
 use Rattle.row08_types.specs.declared.Around.{Around}
 use Rattle.row08_types.specs.declared.Count.{Count}
 
--- what an item is to the rules, by its operation
-unfoldable pub kindOf : ℕ → Kind
-kindOf o =
-    elim (eqb o NUMBER) [
-      | true ↦ Number
-      | false ↦ elim (eqb o ENVIRONMENT) [
-        | true ↦ Name
-        | false ↦ elim (eqb o PORT) [
-          | true ↦ Port
-          | false ↦ elim (eqb o PLUS) [
-            | true ↦ Join
-            | false ↦ elim (eqb o MINUS) [
-              | true ↦ Minus
-              | false ↦ elim (eqb o LOG) [
-                | true ↦ Log
-                | false ↦ elim (eqb o CEIL) [
-                  | true ↦ Whole
-                  | false ↦ elim (eqb o FLOOR) [
-                    | true ↦ Whole
-                    | false ↦ elim (eqb o MOST) [
-                      | true ↦ Most
-                      | false ↦ elim (eqb o ENTRY) [ true ↦ Join | false ↦ elim (eqb o WITHIN) [ true ↦ Within | false ↦ Other ] ]
-                    ]
-                  ]
-                ]
-              ]
-            ]
-          ]
-        ]
-      ]
-    ]
-
-unfoldable pub isType : Kind → Bool
+unfoldable pub isType : Node → Bool
 isType Number = true
 isType Name = true
 isType Port = true
@@ -72,7 +41,7 @@ abbrev pub bare : Around
 bare = place false false false 0 true
 
 -- what the item that holds a type says of it; where it joins two, of the second
-unfoldable pub outerOf : Around → Kind → Around
+unfoldable pub outerOf : Around → Node → Around
 outerOf s Number = s
 outerOf s Name = s
 outerOf s Port = s
@@ -85,11 +54,11 @@ outerOf s Within = s
 outerOf s Other = s
 
 -- an item holds the type where no other waits between them
-unfoldable pub outwardOf : ℕ → Around → Kind → Around
+unfoldable pub outwardOf : ℕ → Around → Node → Around
 outwardOf n s k = elim (isZero n) [ true ↦ outerOf s k | false ↦ s ]
 
 -- how many types wait after one more item
-unfoldable pub waitingOf : ℕ → Kind → ℕ
+unfoldable pub waitingOf : ℕ → Node → ℕ
 waitingOf n Number = n + 1
 waitingOf n Name = n + 1
 waitingOf n Port = n + 1
@@ -106,7 +75,7 @@ unfoldable pub seenFrom : ℕ → Around → List ℕ → Around
 seenFrom n s [] = s
 seenFrom n s (o ∷ []) = s
 seenFrom n s (o ∷ p ∷ []) = s
-seenFrom n s (o ∷ p ∷ v ∷ l) = elim (isType (kindOf o)) [ true ↦ seenFrom (waitingOf n (kindOf o)) (outwardOf n s (kindOf o)) l | false ↦ s ]
+seenFrom n s (o ∷ p ∷ v ∷ l) = elim (isType (nodeOf o)) [ true ↦ seenFrom (waitingOf n (nodeOf o)) (outwardOf n s (nodeOf o)) l | false ↦ s ]
 
 -- ---- back: the logs of the types before
 
@@ -114,7 +83,7 @@ abbrev pub tally : (aside need logs : ℕ) → Count
 tally a n c = record { aside = a; need = n; logs = c }
 
 -- how many types are still to come before an item
-unfoldable pub comingOf : ℕ → Kind → ℕ
+unfoldable pub comingOf : ℕ → Node → ℕ
 comingOf n Number = n - 1
 comingOf n Name = n - 1
 comingOf n Port = n - 1
@@ -126,7 +95,7 @@ comingOf n Most = n
 comingOf n Within = n
 comingOf n Other = n
 
-unfoldable pub countIn : Count → Kind → Count
+unfoldable pub countIn : Count → Node → Count
 countIn s Number = tally 0 (s .need - 1) (s .logs)
 countIn s Name = tally 0 (s .need - 1) (s .logs)
 countIn s Port = tally 0 (s .need - 1) (s .logs)
@@ -138,7 +107,7 @@ countIn s Most = tally 0 (s .need) (s .logs)
 countIn s Within = tally 0 (s .need) (s .logs)
 countIn s Other = tally 0 (s .need) (s .logs)
 
-unfoldable pub countedOf : Count → Kind → Count
+unfoldable pub countedOf : Count → Node → Count
 countedOf s k = elim (isZero (s .aside)) [ true ↦ countIn s k | false ↦ tally (comingOf (s .aside) k) (s .need) (s .logs) ]
 
 -- no type is to come
@@ -146,7 +115,7 @@ unfoldable pub isDone : Count → Bool
 isDone s = isZero (s .aside) && isZero (s .need)
 
 -- the kinds of items, the last one first, as far as types are to come
-unfoldable pub logsOver : Count → List Kind → ℕ
+unfoldable pub logsOver : Count → List Node → ℕ
 logsOver s [] = s .logs
 logsOver s (k ∷ ks) = elim (isDone s) [ true ↦ s .logs | false ↦ logsOver (countedOf s k) ks ]
 
@@ -154,16 +123,16 @@ logsOver s (k ∷ ks) = elim (isDone s) [ true ↦ s .logs | false ↦ logsOver 
 abbrev pub passing : ℕ → Count
 passing n = tally 1 n 0
 
-unfoldable pub kindsBefore : List ℕ → ℕ → List Kind
-kindsBefore t zero = []
-kindsBefore t (suc i) = kindOf (opAt t i) ∷ kindsBefore t i
+unfoldable pub nodesBefore : List ℕ → ℕ → List Node
+nodesBefore t zero = []
+nodesBefore t (suc i) = nodeOf (opAt t i) ∷ nodesBefore t i
 
 -- ---- the test of an item, by the kinds before it and its place
 
-unfoldable pub logFaulty : List Kind → Around → Bool
+unfoldable pub logFaulty : List Node → Around → Bool
 logFaulty ks s = s .in_log || leb together (logsOver (passing (s .lefts)) ks)
 
-unfoldable pub test : List Kind → Kind → ℕ → Around → Bool
+unfoldable pub test : List Node → Node → ℕ → Around → Bool
 test ks Number v s = not (leb v (limits .typeNumber))
 test ks Name v s = false
 test ks Port v s = s .after
@@ -176,9 +145,8 @@ test ks Within v s = false
 test ks Other v s = false
 
 abbrev pub faulty : (t : List ℕ) → (n i : ℕ) → Bool
-faulty t n i = test (kindsBefore t i) (kindOf (opAt t i)) (valueAt t i) (seenFrom 0 bare (drop (3 * (i + 1)) (take n t)))
+faulty t n i = test (nodesBefore t i) (nodeOf (opAt t i)) (valueAt t i) (seenFrom 0 bare (drop (3 * (i + 1)) (take n t)))
 
 -- the places of the faulty items among the first i
-unfoldable pub faultsAt : (t : List ℕ) → (n i : ℕ) → List ℕ
-faultsAt t n zero = []
-faultsAt t n (suc i) = when (faulty t n i) (placeAt t i) ++ faultsAt t n i
+abbrev pub faultsAt : (t : List ℕ) → (n i : ℕ) → List ℕ
+faultsAt t n i = marked (faulty t n) t i

@@ -1,18 +1,9 @@
 // Row 8 of document 01: the rules of types, read off an actor's tape.
 // What comes in: the tape that holds the actor. What goes out: the earliest place of a number over its limit, a port's
 // type after `-`, a `max` that may not stand there, or a log in a log or third among those that stand together.
-use tape::CEIL;
-use tape::ENTRY;
-use tape::ENVIRONMENT;
-use tape::FLOOR;
-use tape::LOG;
-use tape::MINUS;
-use tape::MOST;
-use tape::NUMBER;
-use tape::PLUS;
-use tape::PORT;
-use tape::WITHIN;
+use tape::Node;
 use tape::either;
+use tape::node_of;
 use words::Place;
 ghost use mathlib.Core.Path.{_≡_};
 ghost use mathlib.Core.List.{List};
@@ -26,31 +17,13 @@ ghost use Rattle.language.specs.Types.{typeFaults};
 ghost use Rattle.tape.specs.Tape.{one-if};
 ghost use Rattle.words.specs.Found.{placeTold};
 ghost use Rattle.tape.specs.Row.{Tells};
-ghost use Rattle.row08_types.specs.Walk.{kindOf, isType, place, outerOf, outwardOf, waitingOf, comingOf, seenFrom, bare, countedOf, isDone, logsOver, passing, kindsBefore, logFaulty, faulty};
+ghost use Rattle.row08_types.specs.Walk.{isType, place, outerOf, outwardOf, waitingOf, comingOf, seenFrom, bare, countedOf, isDone, logsOver, passing, nodesBefore, logFaulty, faulty};
 
 // The operations of the items of types.
 const LIMIT: u32 = language::Type::NUMBER;
 
 // How many logs may stand together.
 const TOGETHER: usize = 2;
-
-// What an item is to the rules.
-enum Kind {
-    Number,
-    Name,
-    Port,
-    // What joins two types: `+` or the `,` of a `max`; `-`.
-    Join,
-    Minus,
-    // What holds one type.
-    Log,
-    // `ceil` or `floor`.
-    Whole,
-    Most,
-    Within,
-    // No item of a type.
-    Other,
-}
 
 // What is known of the place of a type from the items after it.
 struct Around {
@@ -75,30 +48,11 @@ struct Count {
     logs: usize,
 }
 
-fn kind_of(op: u32) -> Kind
-    ensures { λ r. ⌜ r ≡ kindOf op ⌝ }
-{
-    match op {
-        NUMBER => Kind::Number,
-        ENVIRONMENT => Kind::Name,
-        PORT => Kind::Port,
-        PLUS => Kind::Join,
-        MINUS => Kind::Minus,
-        LOG => Kind::Log,
-        CEIL => Kind::Whole,
-        FLOOR => Kind::Whole,
-        MOST => Kind::Most,
-        ENTRY => Kind::Join,
-        WITHIN => Kind::Within,
-        _ => Kind::Other,
-    }
-}
-
-fn is_type(k: Kind) -> bool
+fn is_type(k: Node) -> bool
     ensures { λ r. ⌜ r ≡ isType k ⌝ }
 {
     match k {
-        Kind::Other => false,
+        Node::Other => false,
         _ => true,
     }
 }
@@ -124,45 +78,45 @@ fn stands(low: bool, after: bool, in_log: bool, lefts: usize, near: bool) -> Aro
 }
 
 // What the item that holds a type says of its place; where it joins two, the type is the second.
-fn outer(s: Around, k: Kind) -> Around
+fn outer(s: Around, k: Node) -> Around
     requires { ⌜ s .lefts < 18446744073709551615 ⌝ }
     ensures { λ r. ⌜ r ≡ outerOf s k ⌝ }
 {
     match k {
-        Kind::Join => stands(s.low, s.after, s.in_log, joined(s.near, s.lefts), s.near),
-        Kind::Minus => stands(true, true, s.in_log, joined(s.near, s.lefts), s.near),
-        Kind::Log => stands(true, s.after, either(s.in_log, s.near), s.lefts, s.near),
-        Kind::Whole => stands(true, s.after, s.in_log, s.lefts, false),
-        Kind::Most => stands(true, s.after, s.in_log, s.lefts, s.near),
+        Node::Join => stands(s.low, s.after, s.in_log, joined(s.near, s.lefts), s.near),
+        Node::Minus => stands(true, true, s.in_log, joined(s.near, s.lefts), s.near),
+        Node::Log => stands(true, s.after, either(s.in_log, s.near), s.lefts, s.near),
+        Node::Whole => stands(true, s.after, s.in_log, s.lefts, false),
+        Node::Most => stands(true, s.after, s.in_log, s.lefts, s.near),
         _ => s,
     }
 }
 
 // How many types wait after one more item, read forward; read back, how many are still to come.
-fn waiting(n: usize, k: Kind) -> usize
+fn waiting(n: usize, k: Node) -> usize
     requires { ⌜ n < 18446744073709551615 ⌝ }
     ensures { λ r. ⌜ r ≡ waitingOf n k ⌝ }
 {
     match k {
-        Kind::Number => n + 1,
-        Kind::Name => n + 1,
-        Kind::Port => n + 1,
-        Kind::Join => less(n),
-        Kind::Minus => less(n),
+        Node::Number => n + 1,
+        Node::Name => n + 1,
+        Node::Port => n + 1,
+        Node::Join => less(n),
+        Node::Minus => less(n),
         _ => n,
     }
 }
 
-fn coming(n: usize, k: Kind) -> usize
+fn coming(n: usize, k: Node) -> usize
     requires { ⌜ n < 18446744073709551615 ⌝ }
     ensures { λ r. ⌜ r ≡ comingOf n k ⌝ }
 {
     match k {
-        Kind::Number => less(n),
-        Kind::Name => less(n),
-        Kind::Port => less(n),
-        Kind::Join => n + 1,
-        Kind::Minus => n + 1,
+        Node::Number => less(n),
+        Node::Name => less(n),
+        Node::Port => less(n),
+        Node::Join => n + 1,
+        Node::Minus => n + 1,
         _ => n,
     }
 }
@@ -174,7 +128,7 @@ fn less(n: usize) -> usize
 }
 
 // What one more item after a type says of its place, where so many types between them wait.
-fn outward(n: usize, s: Around, k: Kind) -> Around
+fn outward(n: usize, s: Around, k: Node) -> Around
     requires { ⌜ s .lefts < 18446744073709551615 ⌝ }
     ensures { λ r. ⌜ r ≡ outwardOf n s k ⌝ }
 {
@@ -193,7 +147,7 @@ fn seen_around(tape: &[u32], n: usize, from: usize) -> Around
     let mut waits = 0;
     let mut i = from;
     while i < n / 3 {
-        let k = kind_of(tape[3 * i]);
+        let k = node_of(tape[3 * i]);
         if !is_type(k) {
             return s;
         }
@@ -205,7 +159,7 @@ fn seen_around(tape: &[u32], n: usize, from: usize) -> Around
 }
 
 // The count after one more item, read back.
-fn counted(s: Count, k: Kind) -> Count
+fn counted(s: Count, k: Node) -> Count
     requires { ⌜ s .aside + s .need + s .logs < 18446744073709551615 ⌝ }
     ensures { λ r. ⌜ (r ≡ countedOf s k) × (r .aside + r .need + r .logs ≤ s .aside + s .need + s .logs + 1) ⌝ }
 {
@@ -217,12 +171,12 @@ fn counted(s: Count, k: Kind) -> Count
         };
     }
     match k {
-        Kind::Log => Count {
+        Node::Log => Count {
             aside: 0,
             need: s.need,
             logs: s.logs + 1,
         },
-        Kind::Whole => Count {
+        Node::Whole => Count {
             aside: 1,
             need: less(s.need),
             logs: s.logs,
@@ -248,7 +202,7 @@ fn is_done(s: Count) -> bool
 // How many logs stand in so many types before the log at an item; what that log holds is passed over.
 fn logs_before(tape: &[u32], at: usize, lefts: usize) -> usize
     requires { ⌜ (3 * at ≤ length (now tape)) × (3 * lefts ≤ length (now tape)) ⌝ }
-    ensures { λ r. ⌜ r ≡ logsOver (passing lefts) (kindsBefore (now (tape .entry)) at) ⌝ }
+    ensures { λ r. ⌜ r ≡ logsOver (passing lefts) (nodesBefore (now (tape .entry)) at) ⌝ }
 {
     let mut s = Count {
         aside: 1,
@@ -261,7 +215,7 @@ fn logs_before(tape: &[u32], at: usize, lefts: usize) -> usize
             return s.logs;
         }
         i -= 1;
-        s = counted(s, kind_of(tape[3 * i]));
+        s = counted(s, node_of(tape[3 * i]));
     }
     s.logs
 }
@@ -269,7 +223,7 @@ fn logs_before(tape: &[u32], at: usize, lefts: usize) -> usize
 // Whether the log at an item is in a log, or third or later of those that stand together.
 fn log_at_fault(tape: &[u32], n: usize, i: usize) -> bool
     requires { ⌜ (n ≤ length (now tape)) × (i < n / 3) ⌝ }
-    ensures { λ r. ⌜ r ≡ logFaulty (kindsBefore (now (tape .entry)) i) (seenFrom 0 bare (drop (3 * (i + 1)) (take n (now (tape .entry))))) ⌝ }
+    ensures { λ r. ⌜ r ≡ logFaulty (nodesBefore (now (tape .entry)) i) (seenFrom 0 bare (drop (3 * (i + 1)) (take n (now (tape .entry))))) ⌝ }
 {
     let s = seen_around(tape, n, i + 1);
     if s.in_log {
@@ -283,11 +237,11 @@ fn at_fault(tape: &[u32], n: usize, i: usize) -> bool
     requires { ⌜ (n ≤ length (now tape)) × (i < n / 3) ⌝ }
     ensures { λ r. ⌜ r ≡ faulty (now (tape .entry)) n i ⌝ }
 {
-    match kind_of(tape[3 * i]) {
-        Kind::Number => LIMIT < tape[3 * i + 2],
-        Kind::Port => seen_around(tape, n, i + 1).after,
-        Kind::Most => seen_around(tape, n, i + 1).low,
-        Kind::Log => log_at_fault(tape, n, i),
+    match node_of(tape[3 * i]) {
+        Node::Number => LIMIT < tape[3 * i + 2],
+        Node::Port => seen_around(tape, n, i + 1).after,
+        Node::Most => seen_around(tape, n, i + 1).low,
+        Node::Log => log_at_fault(tape, n, i),
         _ => false,
     }
 }

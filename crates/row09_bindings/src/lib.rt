@@ -126,14 +126,7 @@ fn typeless(value: u32) -> bool
 }
 
 // Whether item i names a port or memory with neither type nor binding, or an environment name without value.
-fn open_at(
-    text: &[u8],
-    tape: &[u32],
-    btext: &[u8],
-    table: &[u32],
-    lines: Lines,
-    i: usize,
-) -> bool
+fn open_at(text: &[u8], tape: &[u32], btext: &[u8], table: &[u32], lines: Lines, i: usize) -> bool
     requires { ⌜ (3 * i + 2 < length (now tape)) × Lined lines (now table) ⌝ }
     ensures { λ r. ⌜ r ≡ openAt (now (text .entry)) (now (tape .entry)) (now (btext .entry)) (now (table .entry)) lines i ⌝ }
 {
@@ -154,14 +147,7 @@ fn open_at(
 }
 
 // The earliest place of an open item among so many.
-fn walk(
-    text: &[u8],
-    tape: &[u32],
-    many: usize,
-    btext: &[u8],
-    table: &[u32],
-    lines: Lines,
-) -> Place
+fn walk(text: &[u8], tape: &[u32], many: usize, btext: &[u8], table: &[u32], lines: Lines) -> Place
     requires { ⌜ (3 * many ≤ length (now tape)) × Lined lines (now table) ⌝ }
     ensures { λ r. ⌜ r ≡ placeTold (earliest (opensAt (now (text .entry)) (now (tape .entry)) (now (btext .entry)) (now (table .entry)) lines many)) ⌝ }
 {

@@ -1,3 +1,4 @@
 pub mod Tape
 pub mod Walk
 pub mod Row
+pub mod Nodes

@@ -9,6 +9,7 @@ ghost use Prim.Native.Nat.{_*_, _≤_};
 ghost use lib.ListN.{length};
 ghost use Rattle.language.specs.Text.{same, among};
 ghost use Rattle.placed.specs.Placed.{nameFrom};
+ghost use Rattle.tape.specs.Nodes.{nodeOf};
 ghost use Rattle.tape.specs.Walk.{hit, between, pick};
 pub use numbers::ACTOR;
 pub use numbers::ARM;
@@ -116,6 +117,24 @@ pub struct Operations {
     pub actor: u32,
 }
 
+// What an item is in the type that it stands in.
+pub enum Node {
+    Number,
+    Name,
+    Port,
+    // What joins two types: `+` or the `,` of a `max`; `-`.
+    Join,
+    Minus,
+    // What holds one type.
+    Log,
+    // `ceil` or `floor`.
+    Whole,
+    Most,
+    Within,
+    // No item of a type.
+    Other,
+}
+
 // What an item names.
 pub enum Class {
     Signed,
@@ -146,6 +165,26 @@ pub fn either(a: bool, b: bool) -> bool
         return true;
     }
     b
+}
+
+// What an item is in a type, by its operation.
+pub fn node_of(op: u32) -> Node
+    ensures { λ r. ⌜ r ≡ nodeOf op ⌝ }
+{
+    match op {
+        NUMBER => Node::Number,
+        ENVIRONMENT => Node::Name,
+        PORT => Node::Port,
+        PLUS => Node::Join,
+        MINUS => Node::Minus,
+        LOG => Node::Log,
+        CEIL => Node::Whole,
+        FLOOR => Node::Whole,
+        MOST => Node::Most,
+        ENTRY => Node::Join,
+        WITHIN => Node::Within,
+        _ => Node::Other,
+    }
 }
 
 // The name that stands at a place.

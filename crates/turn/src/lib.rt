@@ -73,7 +73,16 @@ pub fn turn(
         Judged::Refuse(answer) => refused(answer),
         Judged::Act => {
             let mut held = [0u64; PORTS];
-            if act(plan, &fired, values, memory, &mut held, stack, next, changed) {
+            if act(
+                plan,
+                &fired,
+                values,
+                memory,
+                &mut held,
+                stack,
+                next,
+                changed,
+            ) {
                 return refused(Answer::Clash);
             }
             commit(memory, next, outputs, &held);

@@ -6,8 +6,9 @@ use mathlib.Core.Logic.{⊎-elim}
 use Prim.Native.Nat.{ℕ, _≤_, _-_, _/_}
 use Rattle.language.specs.Text.{earliest}
 use Rattle.words.specs.Found.{placeTold}
-use Rattle.row08_types.specs.Walk.{faultsAt}
-use Rattle.row08_types.proofs.Whole.{earliest-fault, fault-more, fault-same, no-fault}
+use Rattle.tape.proofs.Walks.{fault-more, fault-same, no-fault}
+use Rattle.row08_types.specs.Walk.{faulty, faultsAt}
+use Rattle.row08_types.proofs.Whole.{earliest-fault}
 use Rattle.row08_types.proofs.fault.Statement.{statement}
 use Rattle.row08_types.proofs.fault.Tie as tie
 
@@ -51,8 +52,8 @@ loop-again c =
     let at-fault = c .before .at-fault in (
       omega arith,
       ⊎-elim
-          (λ w. w .3 ∙ w .2 .ensures ∙ fault-more (args .tape .now) (args .n) (loop .i) (loop .inv .1) (sym (at-fault .ensures) ∙ w .0 .taken))
-          (λ w. w .1 ∙ fault-same (args .tape .now) (args .n) (loop .i) (loop .inv .1) (sym (at-fault .ensures) ∙ w .0 .left)) (c .if1 .came),
+          (λ w. w .3 ∙ w .2 .ensures ∙ fault-more (faulty (args .tape .now) (args .n)) (args .tape .now) (loop .i) (loop .inv .1) (sym (at-fault .ensures) ∙ w .0 .taken))
+          (λ w. w .1 ∙ fault-same (faulty (args .tape .now) (args .n)) (args .tape .now) (loop .i) (loop .inv .1) (sym (at-fault .ensures) ∙ w .0 .left)) (c .if1 .came),
     )
 
 returns : tie.Need-returns Inv-loop μ-loop

@@ -23,17 +23,17 @@ stands-requires c κs = search needs
 loop-holds : tie.Need-loop-holds Inv-loop μ-loop
 loop-holds c = let e = ap (λ (a : Around). a .lefts) (c .stands .ensures) in (omega arith, omega arith, omega arith, ap (λ (a : Around). seenFrom 0 a (drop (3 * c .before .before .args .from) (take (c .before .before .args .n) (c .before .before .args .tape .now)))) (c .stands .ensures))
 
-mul-kind-of : tie.Need-mul-kind-of Inv-loop μ-loop
-mul-kind-of c = search needs
+mul-node-of : tie.Need-mul-node-of Inv-loop μ-loop
+mul-node-of c = search needs
 
-mul-kind-of-2 : tie.Need-mul-kind-of-2 Inv-loop μ-loop
-mul-kind-of-2 c = search needs
+mul-node-of-2 : tie.Need-mul-node-of-2 Inv-loop μ-loop
+mul-node-of-2 c = search needs
 
-shared-slice-read-kind-of : tie.Need-shared-slice-read-kind-of Inv-loop μ-loop
-shared-slice-read-kind-of c = search needs
+shared-slice-read-node-of : tie.Need-shared-slice-read-node-of Inv-loop μ-loop
+shared-slice-read-node-of c = search needs
 
-kind-of-requires : tie.Need-kind-of-requires Inv-loop μ-loop
-kind-of-requires c κs = search needs
+node-of-requires : tie.Need-node-of-requires Inv-loop μ-loop
+node-of-requires c κs = search needs
 
 is-type-requires : tie.Need-is-type-requires Inv-loop μ-loop
 is-type-requires c κs = search needs
@@ -44,7 +44,7 @@ returns c =
     let pre = c .before .before .before .before .before .before .before .before .pre in
     let loop = c .before .before .before .before .before .loop in
     let loop-test = c .before .before .before .before .loop-test in (
-      seen-stop (args .tape .now) (args .n) (loop .i) (loop .waits) (loop .s) (pre .0) (loop-test .taken) (c .before .before .kind-of .ensures)
+      seen-stop (args .tape .now) (args .n) (loop .i) (loop .waits) (loop .s) (pre .0) (loop-test .taken) (c .before .before .node-of .ensures)
           (sym (c .before .is-type .ensures) ∙ not-true _ (c .if1 .taken)) ∙ loop .inv .3,
       omega arith,
     )
@@ -67,17 +67,17 @@ loop-again c =
     let pre = c .before .before .before .before .before .before .before .before .before .before .pre in
     let loop = c .before .before .before .before .before .before .before .loop in
     let loop-test = c .before .before .before .before .before .before .loop-test in
-    let kind-of = c .before .before .before .before .kind-of in
+    let node-of = c .before .before .before .before .node-of in
     let is-type = c .before .before .before .is-type in
     let outward = c .before .outward in
-    let w = waiting-most (loop .waits) (kind-of .result) in
-    let l = lefts-most (loop .waits) (loop .s) (kind-of .result) in
+    let w = waiting-most (loop .waits) (node-of .result) in
+    let l = lefts-most (loop .waits) (loop .s) (node-of .result) in
     let e = ap (λ (a : Around). a .lefts) (outward .ensures) in (
       omega arith,
       omega (arith, c .waiting .ensures),
       omega arith,
       seen-more (args .tape .now) (args .n) (loop .i) (loop .waits) (loop .s) (pre .0)
-          (loop-test .taken) (kind-of .ensures) (sym (is-type .ensures) ∙ not-false _ (c .before .before .if1 .left)) (c .waiting .ensures)
+          (loop-test .taken) (node-of .ensures) (sym (is-type .ensures) ∙ not-false _ (c .before .before .if1 .left)) (c .waiting .ensures)
           (outward .ensures) ∙ loop .inv .3,
     )
 
@@ -86,5 +86,5 @@ returns-2 c = (seen-end (c .before .before .before .before .args .tape .now) (c 
 
 pub seen-around-spec : {M : Type 1} → statement M
 seen-around-spec =
-    tie.close (tie.spec Inv-loop μ-loop stands-requires loop-holds mul-kind-of mul-kind-of-2 shared-slice-read-kind-of kind-of-requires
+    tie.close (tie.spec Inv-loop μ-loop stands-requires loop-holds mul-node-of mul-node-of-2 shared-slice-read-node-of node-of-requires
     is-type-requires returns outward-requires waiting-requires add-i loop-less loop-again returns-2)
