@@ -16,7 +16,8 @@ use Rattle.tape.specs.Tape.{item, flatT, flatD, flats, flatPort, flatSize, flat
 use Rattle.tape.specs.Walk.{placeAt}
 use Rattle.tape.proofs.Tapes.{item-at}
 use Rattle.row09_bindings.specs.Lines.{nameOn, namesOn, linesOn}
-use Rattle.type_nodes.specs.Codes.{roleOf, isOver, tally, countedOf, countsOver, signedNames, valueOr}
+use Rattle.tape.specs.Nodes.{nodeOf as Tape·nodeOf}
+use Rattle.type_nodes.specs.Codes.{outsideOf, roleIn, isOver, tally, countedOf, countsOver, signedNames, valueOr}
 use Rattle.type_nodes.specs.declared.Counts.{Counts}
 
 -- ---- the signature
@@ -100,7 +101,7 @@ same-item : (o p v : ℕ) → ((c : Counts) (r : List ℕ) → countsOver c (ite
 same-item o p v h = record { on = h }
 
 type-same : (t : Ty) → Same (flatT t)
-unfolding flatT countsOver roleOf isOver countedOf
+unfolding flatT countsOver roleIn outsideOf Tape·nodeOf isOver countedOf
 type-same (number n) = same-item 1 (n .at) (n .value) (λ c r. refl)
 type-same (environment n) = same-item 2 (n .at) 0 (λ c r. refl)
 type-same (port n) = same-item 3 (n .at) 0 (λ c r. refl)
@@ -119,11 +120,11 @@ decl-same untyped = record { on = λ c r. refl }
 decl-same (Declared.typed t) = type-same t
 
 port-same : (p : Port) → Same (flatPort p)
-unfolding flatPort countsOver roleOf isOver countedOf
+unfolding flatPort countsOver roleIn outsideOf Tape·nodeOf isOver countedOf
 port-same p = same-both (decl-same (p .type)) (same-item DECLARED _ _ (λ c r. refl))
 
 size-same : (z : Size) → Same (flatSize z)
-unfolding flatSize countsOver roleOf isOver countedOf
+unfolding flatSize countsOver roleIn outsideOf Tape·nodeOf isOver countedOf
 size-same one = record { on = λ c r. refl }
 size-same (cells n) = same-item _ _ _ (λ c r. refl)
 
@@ -133,12 +134,12 @@ ports-same [] = record { on = λ c r. refl }
 ports-same (p ∷ ps) = same-both (port-same p) (ports-same ps)
 
 signed-count : (ns : List Name) (x y : ℕ) (r : List ℕ) → countsOver (tally x y) (flats flatSigned ns ++ r) ≡ countsOver (tally (x + length ns) y) r
-unfolding flats flatSigned countsOver roleOf isOver countedOf
+unfolding flats flatSigned countsOver roleIn outsideOf Tape·nodeOf isOver countedOf
 signed-count [] x y r = let e : x ≡ x + 0 = omega arith in ap (λ (j : ℕ). countsOver (tally j y) r) e
 signed-count (n ∷ ns) x y r = let e : x + 1 + length ns ≡ x + suc (length ns) = omega arith in signed-count ns (x + 1) y r ∙ ap (λ (j : ℕ). countsOver (tally j y) r) e
 
 memory-count : (m : Memory) (x y : ℕ) (r : List ℕ) → countsOver (tally x y) (flatMemory m ++ r) ≡ countsOver (tally x (y + 1)) r
-unfolding flatMemory countsOver roleOf isOver countedOf
+unfolding flatMemory countsOver roleIn outsideOf Tape·nodeOf isOver countedOf
 memory-count m x y r = ap (countsOver (tally x y)) (append-assoc (flatD (m .type) ++ flatSize (m .size)) (item MEMORY (m .called .at) _) r) ∙ same-both (decl-same (m .type)) (size-same (m .size)) .on (tally x y) _
 
 memories-count : (ms : List Memory) (x y : ℕ) (r : List ℕ) → countsOver (tally x y) (flats flatMemory ms ++ r) ≡ countsOver (tally x (y + length ms)) r
@@ -147,12 +148,12 @@ memories-count [] x y r = let e : y ≡ y + 0 = omega arith in ap (λ (j : ℕ).
 memories-count (m ∷ ms) x y r = let e : y + 1 + length ms ≡ y + suc (length ms) = omega arith in ap (countsOver (tally x y)) (append-assoc (flatMemory m) (flats flatMemory ms) r) ∙ memory-count m x y (flats flatMemory ms ++ r) ∙ memories-count ms x (y + 1) r ∙ ap (λ (j : ℕ). countsOver (tally x j) r) e
 
 groups-count : (gs : List Group) (c : Counts) → countsOver c (flats flatGroup gs) ≡ c
-unfolding flats flatGroup countsOver roleOf isOver
+unfolding flats flatGroup countsOver roleIn outsideOf Tape·nodeOf isOver
 groups-count [] c = refl
 groups-count (g ∷ gs) c = refl
 
 pub actor-count : (a : Actor) → countsOver (tally 0 0) (flatActor a) ≡ tally (length (a .signature)) (length (a .memories))
-unfolding countsOver roleOf isOver countedOf flatActor
+unfolding countsOver roleIn outsideOf Tape·nodeOf isOver countedOf flatActor
 actor-count a =
     let p : flatActor a ≡ item 47 (a .called .at) 0 ++ (flats flatSigned (a .signature) ++ (flats flatPort (a .ports) ++ (flats flatMemory (a .memories) ++ flats flatGroup (a .groups)))) = simp append-assoc in
     let x : 0 + length (a .signature) ≡ length (a .signature) = omega arith in

@@ -9,7 +9,8 @@ use Rattle.language.specs.Tree.{Ty, number, environment, port, plus, minus, log
 use Rattle.placed.specs.Placed.{PlacedType}
 use Rattle.tape.specs.Tape.{item, flatT, NUMBER, ENVIRONMENT, PORT, PLUS, MINUS, LOG, CEIL, FLOOR, MOST, ENTRY, WITHIN}
 use Rattle.type_value.specs.Terms.{code, resolve, Fine}
-use Rattle.type_nodes.specs.Codes.{roleOf, Env, portOf, valueOf, numberNode, nodeOf, capped, grownOf, stopsAt, leftOf, soughtIn}
+use Rattle.tape.specs.Nodes.{nodeOf as Tape·nodeOf}
+use Rattle.type_nodes.specs.Codes.{outsideOf, roleIn, Env, portOf, valueOf, numberNode, nodeOf, capped, grownOf, stopsAt, leftOf, soughtIn}
 use Rattle.type_nodes.specs.declared.Goal.{Goal}
 
 cap-both : (n : ℕ) (l y : List ℕ) → take n (take n l ++ y) ≡ take n (l ++ y)
@@ -74,7 +75,7 @@ module _ (e : Env) where
   takes-two {a} {b} x y o z c d i = record { on = λ g l r. takes-both (x ++ y) (z ∷ []) (takes-both x y c d) i .on g l r ∙ ap (λ (w : List ℕ). soughtIn e g (capped (l ++ w)) r) (append-assoc x y (z ∷ [])) }
 
   pub type-takes : (t : Ty) → PlacedType (e .text) t → Takes (flatT t) (nodesT e t)
-  unfolding flatT nodesT soughtIn roleOf stopsAt leftOf grownOf nodeOf
+  unfolding flatT nodesT soughtIn roleIn outsideOf Tape·nodeOf stopsAt leftOf grownOf nodeOf
   type-takes (number n) h = takes-item NUMBER (n .at) (n .value) (numberNode (n .value)) (λ g l r. refl)
   type-takes (environment n) h = takes-item ENVIRONMENT (n .at) 0 (numberNode (valueOf e (n .spelled))) (λ g l r. ap (λ (s : List ℕ). soughtIn e g (capped (l ++ (numberNode (valueOf e s) ∷ []))) r) (sym h))
   type-takes (port n) h = takes-item PORT (n .at) 0 (portOf e (n .spelled) * 8 + 1) (λ g l r. ap (λ (s : List ℕ). soughtIn e g (capped (l ++ ((portOf e s * 8 + 1) ∷ []))) r) (sym h))

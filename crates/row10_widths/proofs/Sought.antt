@@ -9,7 +9,8 @@ use Rattle.language.specs.Tree.{Declared, untyped, Port, Size, one, cells, Memo
 use Rattle.language.specs.Widths.{declaredType}
 use Rattle.placed.specs.Placed.{nameFrom, Every, PlacedDeclared, PlacedPort, PlacedMemory, PlacedActor}
 use Rattle.tape.specs.Tape.{item, flatD, flats, flatPort, flatSize, flatMemory, flatSigned, flatGroup, flatActor, ACTOR, DECLARED, MEMORY}
-use Rattle.type_nodes.specs.Codes.{roleOf, Env, capped, grownOf, stopsAt, leftOf, keptOf, soughtIn}
+use Rattle.tape.specs.Nodes.{nodeOf as Tape·nodeOf}
+use Rattle.type_nodes.specs.Codes.{outsideOf, roleIn, Env, capped, grownOf, stopsAt, leftOf, keptOf, soughtIn}
 use Rattle.type_nodes.specs.declared.Role.the-variants.{Declared as IsDeclared, Memory as IsMemory}
 use Rattle.type_nodes.specs.declared.Goal.{Goal}
 use Rattle.type_nodes.specs.declared.Goal.the-variants.{Port as PortAt, Memory as MemoryAt}
@@ -34,26 +35,26 @@ module _ (e : Env) where
 
   port-sought : (p : Port) → PlacedPort (e .text) p → (g : Goal) (r : List ℕ)
       → soughtIn e g [] (flatPort p ++ r) ≡ elim (stopsAt (e .text) g IsDeclared (p .called .at)) as (λ (x : Bool). List ℕ) [ true ↦ nodesD e (p .type) | false ↦ soughtIn e g [] r ]
-  unfolding flatPort soughtIn roleOf keptOf leftOf grownOf
+  unfolding flatPort soughtIn roleIn outsideOf Tape·nodeOf keptOf leftOf grownOf
   port-sought p h g r = ap (soughtIn e g []) (append-assoc (flatD (p .type)) (item DECLARED (p .called .at) _) r) ∙ decl-sought (p .type) (h .type) g _
 
   size-sought : (z : Size) (g : Goal) (l r : List ℕ) → soughtIn e g l (flatSize z ++ r) ≡ soughtIn e g l r
-  unfolding flatSize soughtIn roleOf stopsAt leftOf grownOf
+  unfolding flatSize soughtIn roleIn outsideOf Tape·nodeOf stopsAt leftOf grownOf
   size-sought one g l r = refl
   size-sought (cells n) g l r = refl
 
   memory-sought : (m : Memory) → PlacedMemory (e .text) m → (g : Goal) (r : List ℕ)
       → soughtIn e g [] (flatMemory m ++ r) ≡ elim (stopsAt (e .text) g IsMemory (m .called .at)) as (λ (x : Bool). List ℕ) [ true ↦ nodesD e (m .type) | false ↦ soughtIn e (leftOf g IsMemory) [] r ]
-  unfolding flatMemory soughtIn roleOf keptOf grownOf
+  unfolding flatMemory soughtIn roleIn outsideOf Tape·nodeOf keptOf grownOf
   memory-sought m h g r = ap (soughtIn e g []) (append-assoc (flatD (m .type) ++ flatSize (m .size)) (item MEMORY (m .called .at) _) r ∙ append-assoc (flatD (m .type)) (flatSize (m .size)) _) ∙ decl-sought (m .type) (h .type) g _ ∙ size-sought (m .size) g (nodesD e (m .type)) _
 
   signed-sought : (ns : List Name) (g : Goal) (r : List ℕ) → soughtIn e g [] (flats flatSigned ns ++ r) ≡ soughtIn e g [] r
-  unfolding flats flatSigned soughtIn roleOf stopsAt leftOf grownOf
+  unfolding flats flatSigned soughtIn roleIn outsideOf Tape·nodeOf stopsAt leftOf grownOf
   signed-sought [] g r = refl
   signed-sought (n ∷ ns) g r = signed-sought ns g r
 
   groups-sought : (gs : List Group) (g : Goal) → soughtIn e g [] (flats flatGroup gs) ≡ []
-  unfolding flats flatGroup soughtIn roleOf stopsAt keptOf
+  unfolding flats flatGroup soughtIn roleIn outsideOf Tape·nodeOf stopsAt keptOf
   groups-sought [] g = refl
   groups-sought (x ∷ gs) g = refl
 
@@ -99,7 +100,7 @@ module _ (e : Env) where
   parts a = simp append-assoc
 
   started : (a : Actor) (g : Goal) → soughtIn e g [] (flatActor a) ≡ soughtIn e g [] (flats flatPort (a .ports) ++ (flats flatMemory (a .memories) ++ flats flatGroup (a .groups)))
-  unfolding soughtIn roleOf stopsAt leftOf grownOf
+  unfolding soughtIn roleIn outsideOf Tape·nodeOf stopsAt leftOf grownOf
   started a g = ap (soughtIn e g []) (parts a) ∙ signed-sought (a .signature) g _
 
   pub port-found : (a : Actor) → PlacedActor (e .text) a → (q : ℕ) → soughtIn e (PortAt q) [] (flatActor a) ≡ nodesD e (declaredType (a .ports) (nameFrom (e .text) q))

@@ -8,7 +8,10 @@ use lib.ListN.{length, getD, take, drop}
 use Rattle.language.specs.Limits.{limits}
 use Rattle.language.specs.Text.{same, index}
 use Rattle.placed.specs.Placed.{nameFrom}
-use Rattle.tape.specs.Tape.{NUMBER, ENVIRONMENT, PORT, PLUS, MINUS, LOG, CEIL, FLOOR, MOST, ENTRY, WITHIN, OR, DECLARED, MEMORY, SIZE, SIGNED}
+use Rattle.tape.specs.Tape.{NUMBER, ENVIRONMENT, PORT, PLUS, MINUS, LOG, CEIL, FLOOR, OR, DECLARED, MEMORY, SIZE, SIGNED}
+use Rattle.tape.specs.Nodes.{nodeOf as Tape·nodeOf}
+use Rattle.tape.specs.declared.Node.{Node as Tape·Node}
+use Rattle.tape.specs.declared.Node.the-variants.{Number, Name, Port, Join, Minus, Log, Whole, Most, Within, Other}
 use Rattle.tape.specs.Walk.{opAt, placeAt, valueAt}
 use Rattle.bindings.specs.declared.Lines.{Lines}
 use Rattle.row09_bindings.specs.Lines.{namesOn}
@@ -18,49 +21,32 @@ use Rattle.type_nodes.specs.declared.Goal.{Goal}
 use Rattle.type_nodes.specs.declared.Goal.the-variants.{Port as PortAt, Memory as MemoryAt}
 use Rattle.type_nodes.specs.declared.Counts.{Counts}
 
--- what an item is to the declared types, by its operation
-unfoldable pub roleOf : ℕ → Role
-roleOf o =
-    elim (eqb o NUMBER) [
-      | true ↦ Node
-      | false ↦ elim (eqb o ENVIRONMENT) [
-        | true ↦ Node
-        | false ↦ elim (eqb o PORT) [
-          | true ↦ Node
-          | false ↦ elim (eqb o PLUS) [
-            | true ↦ Node
-            | false ↦ elim (eqb o MINUS) [
-              | true ↦ Node
-              | false ↦ elim (eqb o LOG) [
-                | true ↦ Node
-                | false ↦ elim (eqb o CEIL) [
-                  | true ↦ Node
-                  | false ↦ elim (eqb o FLOOR) [
-                    | true ↦ Node
-                    | false ↦ elim (eqb o MOST) [
-                      | true ↦ Keep
-                      | false ↦ elim (eqb o ENTRY) [
-                        | true ↦ Node
-                        | false ↦ elim (eqb o WITHIN) [
-                          | true ↦ Keep
-                          | false ↦ elim (eqb o OR) [
-                            | true ↦ Over
-                            | false ↦ elim (eqb o DECLARED) [
-                              | true ↦ Declared
-                              | false ↦ elim (eqb o MEMORY) [ true ↦ Memory | false ↦ elim (eqb o SIZE) [ true ↦ Keep | false ↦ elim (eqb o SIGNED) [ true ↦ Signed | false ↦ Clear ] ] ]
-                            ]
-                          ]
-                        ]
-                      ]
-                    ]
-                  ]
-                ]
-              ]
-            ]
-          ]
-        ]
+-- what an item that stands in no type is to the declared types, by its operation
+unfoldable pub outsideOf : ℕ → Role
+outsideOf o =
+    elim (eqb o OR) [
+      | true ↦ Over
+      | false ↦ elim (eqb o DECLARED) [
+        | true ↦ Declared
+        | false ↦ elim (eqb o MEMORY) [ true ↦ Memory | false ↦ elim (eqb o SIZE) [ true ↦ Keep | false ↦ elim (eqb o SIGNED) [ true ↦ Signed | false ↦ Clear ] ] ]
       ]
     ]
+
+-- what an item is to the declared types, by what it is in a type
+unfoldable pub roleIn : Tape·Node → ℕ → Role
+roleIn Number o = Node
+roleIn Name o = Node
+roleIn Port o = Node
+roleIn Join o = Node
+roleIn Minus o = Node
+roleIn Log o = Node
+roleIn Whole o = Node
+roleIn Most o = Keep
+roleIn Within o = Keep
+roleIn Other o = outsideOf o
+
+abbrev pub roleOf : ℕ → Role
+roleOf o = roleIn (Tape·nodeOf o) o
 
 unfoldable pub isOver : Role → Bool
 isOver Node = false

@@ -6,20 +6,19 @@ use language::Type;
 use row09_bindings::found;
 use tape::CEIL;
 use tape::DECLARED;
-use tape::ENTRY;
 use tape::ENVIRONMENT;
 use tape::FLOOR;
 use tape::LOG;
 use tape::MEMORY;
 use tape::MINUS;
-use tape::MOST;
 use tape::NUMBER;
+use tape::Node;
 use tape::OR;
 use tape::PLUS;
 use tape::PORT;
 use tape::SIGNED;
 use tape::SIZE;
-use tape::WITHIN;
+use tape::node_of;
 use tape::wide;
 ghost use mathlib.Core.Path.{_≡_};
 ghost use Prim.Native.Nat.{_+_, _-_, _*_, _/_, _≤_, _<_};
@@ -28,7 +27,7 @@ ghost use Rattle.language.specs.Limits.{limits};
 ghost use Rattle.language.specs.Text.{index};
 ghost use Rattle.placed.specs.Placed.{nameFrom};
 ghost use Rattle.bindings.specs.Table.{Lined};
-ghost use Rattle.type_nodes.specs.Codes.{roleOf, isOver, tally, countedOf, countsOver, env, signedNames, valueOr, numberNode, nodeAt, stopsAt, leftOf, keptOf};
+ghost use Rattle.type_nodes.specs.Codes.{outsideOf, roleOf, isOver, tally, countedOf, countsOver, env, signedNames, valueOr, numberNode, nodeAt, stopsAt, leftOf, keptOf};
 
 // What an item is to the declared types.
 pub enum Role {
@@ -55,27 +54,34 @@ pub struct Counts {
     pub memories: usize,
 }
 
-pub fn role_of(op: u32) -> Role
-    ensures { λ r. ⌜ r ≡ roleOf op ⌝ }
+// What an item that stands in no type is to the declared types.
+fn outside(op: u32) -> Role
+    ensures { λ r. ⌜ r ≡ outsideOf op ⌝ }
 {
     match op {
-        NUMBER => Role::Node,
-        ENVIRONMENT => Role::Node,
-        PORT => Role::Node,
-        PLUS => Role::Node,
-        MINUS => Role::Node,
-        LOG => Role::Node,
-        CEIL => Role::Node,
-        FLOOR => Role::Node,
-        MOST => Role::Keep,
-        ENTRY => Role::Node,
-        WITHIN => Role::Keep,
         OR => Role::Over,
         DECLARED => Role::Declared,
         MEMORY => Role::Memory,
         SIZE => Role::Keep,
         SIGNED => Role::Signed,
         _ => Role::Clear,
+    }
+}
+
+pub fn role_of(op: u32) -> Role
+    ensures { λ r. ⌜ r ≡ roleOf op ⌝ }
+{
+    match node_of(op) {
+        Node::Number => Role::Node,
+        Node::Name => Role::Node,
+        Node::Port => Role::Node,
+        Node::Join => Role::Node,
+        Node::Minus => Role::Node,
+        Node::Log => Role::Node,
+        Node::Whole => Role::Node,
+        Node::Most => Role::Keep,
+        Node::Within => Role::Keep,
+        Node::Other => outside(op),
     }
 }
 
