@@ -43,6 +43,7 @@ use Rattle.row13_plan.specs.Made.{tableAfter as tableWith}
 use Rattle.plan_of.proofs.Row13.{made}
 use Rattle.item_writes.specs.Walk.{aroundOf, settledOn}
 use Rattle.settle.proofs.Whole.{walked-few, settled-is}
+use Rattle.bindings.specs.declared.Lines.{Lines}
 use Rattle.row10_widths.specs.Row.{Settles, Fits, told}
 use Rattle.row10_widths.specs.declared.Answer as Resolved·answer
 use Rattle.row10_widths.specs.declared.Answer.the-variants.{Widths, Nothing}
@@ -203,11 +204,11 @@ module _ {items : List ℕ} {many : ℕ} {ws : List Word} {s : Setting} (h : Set
 
 -- ---- the items that `settling` makes
 
-module _ (text t : List ℕ) (n : ℕ) (btext table : List ℕ) (k m : ℕ) (widths : List ℕ) {r : ℕ} (long : r ≡ length (settledOn text t (n / 3) btext table k m widths)) where
+module _ (text t : List ℕ) (n : ℕ) (btext table : List ℕ) (lines : Lines) (widths : List ℕ) {r : ℕ} (long : r ≡ length (settledOn text t (n / 3) btext table lines widths)) where
   pub settled-count : (6 * (r / 6) ≡ r) × (r ≤ 2 * n)
-  settled-count = let w = walked-few (aroundOf text t (n / 3) btext table k m widths) t (n / 3) in (omega (arith, w .1), omega (arith, w .0))
+  settled-count = let w = walked-few (aroundOf text t (n / 3) btext table lines widths) t (n / 3) in (omega (arith, w .1), omega (arith, w .0))
 
-  pub settled-held : {items : List ℕ} {ws : List Word} {a : Actor} {b : Bindings} → take r items ≡ settledOn text t (n / 3) btext table k m widths → n ≤ length t → Heard text t n btext table k m ws a b → Least a b widths
+  pub settled-held : {items : List ℕ} {ws : List Word} {a : Actor} {b : Bindings} → take r items ≡ settledOn text t (n / 3) btext table lines widths → n ≤ length t → Heard text t n btext table lines ws a b → Least a b widths
       → Settled items (r / 6) ws (record { actor = a; bindings = b; widths = widths })
   settled-held {items} {ws} {a} is low h least =
       record {

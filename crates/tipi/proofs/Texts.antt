@@ -27,6 +27,7 @@ use Rattle.syntax.specs.declared.Said.the-variants.{Tape as IsTape, Refused as 
 use Rattle.bindings.specs.Table as Table
 use Rattle.bindings.specs.declared.Answer as Bindings·answer
 use Rattle.bindings.specs.declared.Answer.the-variants.{Bound as IsBound, Wrong, NoRoom}
+use Rattle.bindings.specs.declared.Lines.{Lines}
 use Rattle.tape.specs.Row.{Tells}
 use Rattle.row09_bindings.specs.Lines.{Binds}
 use Rattle.row09_bindings.proofs.Tables.{Filled, read-fills}
@@ -126,17 +127,17 @@ pub tape-size : (text t : List ℕ) {t′ : List ℕ} {n : ℕ} → length t ≡
 tape-size text t h e = ap length e ∙ tape-long text t ∙ h
 
 -- an actor that is on the tape, with its bindings
-pub record Met (text t btext table : List ℕ) (n k m : ℕ) (b : Bindings) : Type 0 where
+pub record Met (text t btext table : List ℕ) (n : ℕ) (lines : Lines) (b : Bindings) : Type 0 where
   pub ws : List Word
   pub actor : Actor
-  pub held : TextsHeld text t n btext table k m ws actor b
+  pub held : TextsHeld text t n btext table lines ws actor b
   pub whole : worded text b ≡ judged ws actor b
 
 pub few-numbers : {r : Said} {n : ℕ} → Roomy r → r ≡ IsTape n → n ≤ 24576
 few-numbers h e = subst Roomy e h
 
-pub met : (text t : List ℕ) {t′ btext table : List ℕ} {n k m : ℕ} {b : Bindings} {r : Said} → length text ≤ limits .actor → length t ≡ 24576 → r ≡ saidOf text → t′ ≡ tapeAfter text t → Roomy r → r ≡ IsTape n → Binds btext table k m b → Met text t′ btext table n k m b
-met text t {t′} {btext} {table} {n} {k} {m} {b} h long e f room g binds =
+pub met : (text t : List ℕ) {t′ btext table : List ℕ} {n : ℕ} {lines : Lines} {b : Bindings} {r : Said} → length text ≤ limits .actor → length t ≡ 24576 → r ≡ saidOf text → t′ ≡ tapeAfter text t → Roomy r → r ≡ IsTape n → Binds btext table lines b → Met text t′ btext table n lines b
+met text t {t′} {btext} {table} {n} {lines} {b} h long e f room g binds =
     let p = worded-taped text t b h e g in
     record {
       ws = p .ws;
@@ -209,8 +210,8 @@ module _ (text btext : List ℕ) where
         go (bound b) z = subst mark z tt
         go (wrongAt q) z = subst mark z tt
 
-  pub bindings-filled : (t : List ℕ) {table : List ℕ} {k m : ℕ} {r : Bindings·answer.Answer} → r ≡ Table.answerOf btext t → table ≡ Table.tableAfter btext t → r ≡ IsBound k m → Filled btext table k m
-  bindings-filled t {k = k} {m = m} e f g = subst (λ (l : List ℕ). Filled btext l k m) (sym f) (read-fills btext t (sym e ∙ g))
+  pub bindings-filled : (t : List ℕ) {table : List ℕ} {k m : ℕ} {r : Bindings·answer.Answer} → r ≡ Table.answerOf btext t → table ≡ Table.tableAfter btext t → r ≡ IsBound k m → Filled btext table (Table.soMany k m)
+  bindings-filled t {k = k} {m = m} e f g = subst (λ (l : List ℕ). Filled btext l (Table.soMany k m)) (sym f) (read-fills btext t (sym e ∙ g))
 
   pub bindings-bound : (b : Bindings) → length text ≤ limits .actor → length btext ≤ limits .bindings → bindingsOf btext ≡ bound b → early text btext ≡ worded text b
   bindings-bound b h k e = both-short h k ∙ rw e

@@ -19,6 +19,7 @@ use Rattle.language.specs.declared.Text.the-variants.{Actor as InActor}
 use Rattle.plan_of.specs.PlanOf.{planOf}
 use Rattle.plan_of.specs.Accepted.{Grammatical}
 use Rattle.tape.specs.Row.{Tells}
+use Rattle.bindings.specs.declared.Lines.{Lines}
 use Rattle.row09_bindings.specs.Lines.{Binds}
 use Rattle.row10_widths.specs.Row.{Passed, Asked}
 use Rattle.settled.specs.Settled.{settledOf}
@@ -59,21 +60,21 @@ pub record After (e : Early) (r : Answer) (before after : List ℕ) : Type 0 whe
   pub told : Told what r before after
 
 -- with no fault of rows 6 to 9
-pub record Heard (text t : List ℕ) (n : ℕ) (btext table : List ℕ) (k m : ℕ) (ws : List Word) (a : Actor) (b : Bindings) : Type 0 where
-  pub asked : Asked text t n btext table k m ws a b
+pub record Heard (text t : List ℕ) (n : ℕ) (btext table : List ℕ) (lines : Lines) (ws : List Word) (a : Actor) (b : Bindings) : Type 0 where
+  pub asked : Asked text t n btext table lines ws a b
   pub known : strangers a b ≡ []
   pub settled : unsettled a b ≡ []
 
 -- the answer is that of the actor and the bindings that they hold: of rows 6 to 13, of rows 10 to 13, and of rows 11 to 13 at these widths
-abbrev pub JudgedTold : (text t : List ℕ) (n : ℕ) (btext table : List ℕ) (k m : ℕ) → Answer → (before after : List ℕ) → Type 0
-JudgedTold text t n btext table k m r before after = (ws : List Word) (a : Actor) (b : Bindings) → TextsHeld text t n btext table k m ws a b → After (judged ws a b) r before after
+abbrev pub JudgedTold : (text t : List ℕ) (n : ℕ) (btext table : List ℕ) → Lines → Answer → (before after : List ℕ) → Type 0
+JudgedTold text t n btext table lines r before after = (ws : List Word) (a : Actor) (b : Bindings) → TextsHeld text t n btext table lines ws a b → After (judged ws a b) r before after
 
-abbrev pub PlannedTold : (text t : List ℕ) (n : ℕ) (btext table : List ℕ) (k m : ℕ) → Answer → (before after : List ℕ) → Type 0
-PlannedTold text t n btext table k m r before after = (ws : List Word) (a : Actor) (b : Bindings) → Heard text t n btext table k m ws a b → After (through a b) r before after
+abbrev pub PlannedTold : (text t : List ℕ) (n : ℕ) (btext table : List ℕ) → Lines → Answer → (before after : List ℕ) → Type 0
+PlannedTold text t n btext table lines r before after = (ws : List Word) (a : Actor) (b : Bindings) → Heard text t n btext table lines ws a b → After (through a b) r before after
 
-abbrev pub SizedTold : (text t : List ℕ) (n : ℕ) (btext table : List ℕ) (k m : ℕ) (widths : List ℕ) → Answer → (before after : List ℕ) → Type 0
-SizedTold text t n btext table k m widths r before after =
-    (ws : List Word) (a : Actor) (b : Bindings) → Heard text t n btext table k m ws a b → Least a b widths → Told (late a b (some widths)) r before after
+abbrev pub SizedTold : (text t : List ℕ) (n : ℕ) (btext table : List ℕ) → Lines → (widths : List ℕ) → Answer → (before after : List ℕ) → Type 0
+SizedTold text t n btext table lines widths r before after =
+    (ws : List Word) (a : Actor) (b : Bindings) → Heard text t n btext table lines ws a b → Least a b widths → Told (late a b (some widths)) r before after
 
 -- the first items of a table are those of a setting with no fault before row 11
 pub record Settled (items : List ℕ) (many : ℕ) (ws : List Word) (s : Setting) : Type 0 where

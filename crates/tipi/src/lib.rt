@@ -8,6 +8,7 @@ pub use plan_answer::Answer;
 
 mod plans;
 
+use bindings::Lines;
 use early_rows::Verdict;
 use early_rows::first;
 use language::Text;
@@ -15,13 +16,14 @@ use plans::planned;
 use syntax::Said;
 ghost use Rattle.tape.specs.Tape.{longest};
 ghost use mathlib.Core.List.{List};
-ghost use Prim.Native.Nat.{_+_, _*_, _≤_};
+ghost use Prim.Native.Nat.{_≤_};
 ghost use lib.ListN.{length};
 ghost use Rattle.language.specs.Limits.{limits};
 ghost use Rattle.language.specs.Words.{Word};
 ghost use Rattle.language.specs.Tree.{Actor};
 ghost use Rattle.language.specs.Bindings.{Bindings};
 ghost use Rattle.language.specs.Reading.{worded as Reading·worded};
+ghost use Rattle.bindings.specs.Table.{Lined};
 ghost use Rattle.row09_bindings.specs.Lines.{Binds};
 ghost use Rattle.tipi.specs.Told.{Read, After, JudgedTold};
 ghost use Rattle.early_rows.specs.Verdicts.{TextsHeld};
@@ -33,29 +35,28 @@ fn judged(
     n: usize,
     btext: &[u8],
     table: &[u32],
-    k: usize,
-    m: usize,
+    lines: Lines,
     plan: &mut [u32],
 ) -> Answer
-    requires { ⌜ (n ≤ length (now tape)) × (n ≤ longest) × (3 * (k + m) ≤ length (now table)) ⌝ }
-    requires { ⌜ ((ws : List Word) × (a : Actor) × (b : Bindings) × TextsHeld (now text) (now tape) n (now btext) (now table) k m ws a b) ⌝ }
-    ensures { λ r. ⌜ JudgedTold (now (text .entry)) (now (tape .entry)) n (now (btext .entry)) (now (table .entry)) k m r (now (plan .entry)) (now (plan .exit)) ⌝ }
+    requires { ⌜ (n ≤ length (now tape)) × (n ≤ longest) × Lined lines (now table) ⌝ }
+    requires { ⌜ ((ws : List Word) × (a : Actor) × (b : Bindings) × TextsHeld (now text) (now tape) n (now btext) (now table) lines ws a b) ⌝ }
+    ensures { λ r. ⌜ JudgedTold (now (text .entry)) (now (tape .entry)) n (now (btext .entry)) (now (table .entry)) lines r (now (plan .entry)) (now (plan .exit)) ⌝ }
 {
-    match first(text, tape, n, btext, table, k, m) {
+    match first(text, tape, n, btext, table, lines) {
         Verdict::Stopped(row, which, place) => Answer::Refused(row, which, place),
-        Verdict::Through => planned(text, tape, n, btext, table, k, m, plan),
+        Verdict::Through => planned(text, tape, n, btext, table, lines, plan),
     }
 }
 
 // Rows 3 to 13, with the lines of the bindings in a table.
-fn worded(text: &[u8], btext: &[u8], table: &[u32], k: usize, m: usize, plan: &mut [u32]) -> Answer
-    requires { ⌜ (length (now text) ≤ limits .actor) × (3 * (k + m) ≤ length (now table)) ⌝ }
-    requires { ⌜ ((b : Bindings) × Binds (now btext) (now table) k m b) ⌝ }
-    ensures { λ r. ⌜ ((b : Bindings) → Binds (now (btext .entry)) (now (table .entry)) k m b → After (Reading·worded (now (text .entry)) b) r (now (plan .entry)) (now (plan .exit))) ⌝ }
+fn worded(text: &[u8], btext: &[u8], table: &[u32], lines: Lines, plan: &mut [u32]) -> Answer
+    requires { ⌜ (length (now text) ≤ limits .actor) × Lined lines (now table) ⌝ }
+    requires { ⌜ ((b : Bindings) × Binds (now btext) (now table) lines b) ⌝ }
+    ensures { λ r. ⌜ ((b : Bindings) → Binds (now (btext .entry)) (now (table .entry)) lines b → After (Reading·worded (now (text .entry)) b) r (now (plan .entry)) (now (plan .exit))) ⌝ }
 {
     let mut tape = [0u32; tape::LENGTH];
     match syntax::read(text, &mut tape) {
-        Said::Tape(n) => judged(text, &tape, n as usize, btext, table, k, m, plan),
+        Said::Tape(n) => judged(text, &tape, n as usize, btext, table, lines, plan),
         Said::Refused(row, place) => Answer::Refused(row, Text::Actor, place),
     }
 }
@@ -72,14 +73,13 @@ pub fn read(text: &[u8], bindings: &[u8], plan: &mut [u32]) -> Answer
     }
     let mut table = [0u32; bindings::NUMBERS];
     match bindings::read(bindings, &mut table) {
-        bindings::Answer::Bound(k, m) => worded(
-            text,
-            bindings,
-            &table,
-            k as usize,
-            m as usize,
-            plan,
-        ),
+        bindings::Answer::Bound(widths, values) => {
+            let lines = Lines {
+                widths: widths as usize,
+                values: values as usize,
+            };
+            worded(text, bindings, &table, lines, plan)
+        }
         bindings::Answer::Wrong(p) => Answer::Refused(2, Text::Bindings, p),
         // a text within its limit has room in this table
         bindings::Answer::NoRoom => Answer::Refused(2, Text::Bindings, 0),

@@ -1,17 +1,19 @@
 // Rows 10 to 13 of document 01: the widths, the sizes of values, presence, the plan.
+use bindings::Lines;
 use language::Text;
 use plan_answer::Answer;
 use plan_answer::made;
 use words::Place;
 ghost use Rattle.tape.specs.Tape.{longest, mostItems};
 ghost use mathlib.Core.List.{List};
-ghost use Prim.Native.Nat.{_+_, _*_, _≤_};
+ghost use Prim.Native.Nat.{_*_, _≤_};
 ghost use lib.ListN.{length};
 ghost use Rattle.language.specs.Words.{Word};
 ghost use Rattle.language.specs.Tree.{Actor};
 ghost use Rattle.language.specs.Bindings.{Bindings};
 ghost use Rattle.language.specs.Widths.{Least};
 ghost use Rattle.language.specs.Sizes.{Setting};
+ghost use Rattle.bindings.specs.Table.{Lined};
 ghost use Rattle.tipi.specs.Told.{Told, Heard, Settled, lateOf, PlannedTold, SizedTold};
 
 // A settled item, six numbers, for each item of the tape; for each of these at most one item of code, four numbers.
@@ -48,17 +50,16 @@ fn sized(
     n: usize,
     btext: &[u8],
     table: &[u32],
-    k: usize,
-    m: usize,
+    lines: Lines,
     widths: &[u32],
     plan: &mut [u32],
 ) -> Answer
-    requires { ⌜ (n ≤ length (now tape)) × (n ≤ longest) × (3 * (k + m) ≤ length (now table)) ⌝ }
-    requires { ⌜ ((ws : List Word) × (a : Actor) × (b : Bindings) × Heard (now text) (now tape) n (now btext) (now table) k m ws a b × Least a b (now widths)) ⌝ }
-    ensures { λ r. ⌜ SizedTold (now (text .entry)) (now (tape .entry)) n (now (btext .entry)) (now (table .entry)) k m (now (widths .entry)) r (now (plan .entry)) (now (plan .exit)) ⌝ }
+    requires { ⌜ (n ≤ length (now tape)) × (n ≤ longest) × Lined lines (now table) ⌝ }
+    requires { ⌜ ((ws : List Word) × (a : Actor) × (b : Bindings) × Heard (now text) (now tape) n (now btext) (now table) lines ws a b × Least a b (now widths)) ⌝ }
+    ensures { λ r. ⌜ SizedTold (now (text .entry)) (now (tape .entry)) n (now (btext .entry)) (now (table .entry)) lines (now (widths .entry)) r (now (plan .entry)) (now (plan .exit)) ⌝ }
 {
     let mut items = [0u32; NUMBERS];
-    let many = settle::settled(text, tape, n, btext, table, k, m, widths, &mut items);
+    let many = settle::settled(text, tape, n, btext, table, lines, widths, &mut items);
     finished(&items, many / 6, plan)
 }
 
@@ -69,24 +70,22 @@ pub fn planned(
     n: usize,
     btext: &[u8],
     table: &[u32],
-    k: usize,
-    m: usize,
+    lines: Lines,
     plan: &mut [u32],
 ) -> Answer
-    requires { ⌜ (n ≤ length (now tape)) × (n ≤ longest) × (3 * (k + m) ≤ length (now table)) ⌝ }
-    requires { ⌜ ((ws : List Word) × (a : Actor) × (b : Bindings) × Heard (now text) (now tape) n (now btext) (now table) k m ws a b) ⌝ }
-    ensures { λ r. ⌜ PlannedTold (now (text .entry)) (now (tape .entry)) n (now (btext .entry)) (now (table .entry)) k m r (now (plan .entry)) (now (plan .exit)) ⌝ }
+    requires { ⌜ (n ≤ length (now tape)) × (n ≤ longest) × Lined lines (now table) ⌝ }
+    requires { ⌜ ((ws : List Word) × (a : Actor) × (b : Bindings) × Heard (now text) (now tape) n (now btext) (now table) lines ws a b) ⌝ }
+    ensures { λ r. ⌜ PlannedTold (now (text .entry)) (now (tape .entry)) n (now (btext .entry)) (now (table .entry)) lines r (now (plan .entry)) (now (plan .exit)) ⌝ }
 {
     let mut widths = [0u32; WIDTHS];
-    match row10_widths::solved(text, tape, n, btext, table, k, m, &mut widths) {
+    match row10_widths::solved(text, tape, n, btext, table, lines, &mut widths) {
         row10_widths::Answer::Widths(w) => sized(
             text,
             tape,
             n,
             btext,
             table,
-            k,
-            m,
+            lines,
             &widths[..w],
             plan,
         ),

@@ -25,25 +25,25 @@ slice-aggregate-read c = search needs
 read-requires : tie.Need-read-requires
 read-requires c κs = search needs
 
-enum-known-k : tie.Need-enum-known-k
-enum-known-k c = search needs
+enum-known-widths : tie.Need-enum-known-widths
+enum-known-widths c = search needs
+
+cast-t18 : tie.Need-cast-t18
+cast-t18 c = search needs
+
+cast-t19 : tie.Need-cast-t19
+cast-t19 c = search needs
 
 slice-aggregate-worded : tie.Need-slice-aggregate-worded
 slice-aggregate-worded c = search needs
-
-cast-worded : tie.Need-cast-worded
-cast-worded c = search needs
-
-cast-worded-2 : tie.Need-cast-worded-2
-cast-worded-2 c = search needs
 
 worded-requires : tie.Need-worded-requires
 worded-requires c κs =
     let args = c .before .before .before .before .before .before .before .before .before .before .before .before .before .args in
     let if1 = c .before .before .before .before .before .before .before .before .before .if1 in
     let the-read = c .before .before .before .before .before .before .read in
-    let k = c .before .before .before .k in
-    let q = bindings-filled (args .text .now) (args .bindings .now) (replicate 96 0) (the-read .ensures .0) (the-read .ensures .1) (k .given .1) in
+    let widths = c .before .before .before .widths in
+    let q = bindings-filled (args .text .now) (args .bindings .now) (replicate 96 0) (the-read .ensures .0) (the-read .ensures .1) (widths .given .1) in
     ((if1 .left, q .room), (q .bindings, q .binds))
 
 enum-known-p : tie.Need-enum-known-p
@@ -61,8 +61,8 @@ returns-3 c =
     let if1 = c .before .before .before .before .before .before .before .before .before .before .before .before .if1 in
     let if2 = c .before .before .before .before .before .before .before .before .before .before .before .if2 in
     let the-read = c .before .before .before .before .before .before .before .before .before .read in
-    let k = c .before .before .before .before .before .before .k in
-    let q = bindings-filled (args .text .now) (args .bindings .now) (replicate 96 0) (the-read .ensures .0) (the-read .ensures .1) (k .given .1) in
+    let widths = c .before .before .before .before .before .before .widths in
+    let q = bindings-filled (args .text .now) (args .bindings .now) (replicate 96 0) (the-read .ensures .0) (the-read .ensures .1) (widths .given .1) in
     after-read _ _
     (after-as (bindings-bound _ _ (q .bindings) (if1 .left) (if2 .left) (q .binds .reads))
     (c .before .before .worded .ensures (q .bindings) (q .binds)))
@@ -89,5 +89,5 @@ returns-5 c =
 
 pub read-spec : {M : Type 1} → statement M
 read-spec =
-    tie.close (tie.spec cast-if1 returns cast-if2 returns-2 slice-aggregate-read read-requires enum-known-k slice-aggregate-worded cast-worded
-    cast-worded-2 worded-requires enum-known-p enum-told same-length returns-3 returns-4 returns-5)
+    tie.close (tie.spec cast-if1 returns cast-if2 returns-2 slice-aggregate-read read-requires enum-known-widths cast-t18 cast-t19
+    slice-aggregate-worded worded-requires enum-known-p enum-told same-length returns-3 returns-4 returns-5)

@@ -19,9 +19,9 @@ finished-requires c κs =
     let b = c .before .before .before .before .before .before .before .before .before .before .before in
     let a = b .args in
     let e = c .before .before .before .settled .ensures in
-    let q = settled-count (a .text .now) (a .tape .now) (a .n) (a .btext .now) (a .table .now) (a .k) (a .m) (a .widths .now) (e .0) in
+    let q = settled-count (a .text .now) (a .tape .now) (a .n) (a .btext .now) (a .table .now) (a .lines) (a .widths .now) (e .0) in
     let z = whole-there _ (e .0) (e .1 .0) in
-    let h = settled-held (a .text .now) (a .tape .now) (a .n) (a .btext .now) (a .table .now) (a .k) (a .m) (a .widths .now) (e .0) (e .1 .0) (b .pre .0 .0) (b .pre .1 .3) (b .pre .1 .4) in
+    let h = settled-held (a .text .now) (a .tape .now) (a .n) (a .btext .now) (a .table .now) (a .lines) (a .widths .now) (e .0) (e .1 .0) (b .pre .0 .0) (b .pre .1 .3) (b .pre .1 .4) in
     ((omega (arith, q .0, q .1, b .pre .0 .1), omega (arith, q .0, z)), (_, _, h))
 
 same-length : tie.Need-same-length
@@ -33,7 +33,7 @@ returns c =
     let a = b .args in
     let e = c .before .before .before .before .before .before .settled .ensures in
     let f = c .before .before .finished .ensures in
-    λ ws x y h least. f ws _ (settled-held (a .text .now) (a .tape .now) (a .n) (a .btext .now) (a .table .now) (a .k) (a .m) (a .widths .now) (e .0) (e .1 .0) (b .pre .0 .0) h least)
+    λ ws x y h least. f ws _ (settled-held (a .text .now) (a .tape .now) (a .n) (a .btext .now) (a .table .now) (a .lines) (a .widths .now) (e .0) (e .1 .0) (b .pre .0 .0) h least)
 
 pub sized-spec : {M : Type 1} → statement M
 sized-spec =
