@@ -38,6 +38,7 @@ module _ {T : Type 0} where
   complete_of : (n : ℕ) (t : T) {r : Res T} {m : ℕ} → Agrees t [] r → Settled m r → whole n r ≡ tree t
   unfolding whole
   complete_of n t a_ok s = refl
+  complete_of n t {m = m} a_dry s = elim s [ ]
 
   settled_of_law : (n : ℕ) {r : Res T} {m : ℕ} → Settled m r → ¬ (whole n r ≡ tired)
   unfolding whole
