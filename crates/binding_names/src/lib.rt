@@ -1,6 +1,8 @@
 // The names of the bindings text: each is one that no line before it in its section has.
 // What comes in: a text, a table of the lines before and a place. What goes out: the place after the name and how many bytes
 // it has, or the first byte at which no right text continues.
+#![tactic(auto)]
+
 ghost use Rattle.std.specs.Prelude.{◌≡◌, ◌+◌, take, drop};
 ghost use Rattle.language.specs.Text.{among};
 ghost use Rattle.language.specs.Bindings.{may_end};

@@ -1,6 +1,8 @@
 // The numbers of the bindings text: a count, a width, a value, and the end of the line.
 // What comes in: a text, a place and the greatest number that may stand there. What goes out: the place after it and the
 // number, or the first byte at which no right text continues.
+#![tactic(auto)]
+
 ghost use Rattle.std.specs.Prelude.{◌≤◌, ◌≡◌, length, drop};
 ghost use Rattle.language.specs.Limits.{limits};
 ghost use Rattle.language.specs.Bindings.{digits_from, number_up_to};

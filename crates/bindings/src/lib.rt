@@ -1,6 +1,8 @@
 // The bindings text, read into a lent table of its lines (row 2 of document 01).
 // What comes in: the text and a table. What goes out: how many lines bind widths and values, with three numbers in the
 // table for each (its name's place and length, its width or value), or the first byte at which no right text continues.
+#![tactic(auto)]
+
 ghost use Rattle.language.specs.Limits.{limits};
 ghost use Rattle.std.specs.Prelude.{◌≡◌, [], ◌∷◌, ◌+◌, ◌*◌, ◌≤◌, ◌<◌, length, take, drop};
 ghost use Rattle.std.proofs.lemmas.List.Edits.{sets};

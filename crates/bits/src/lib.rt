@@ -1,6 +1,8 @@
 // Numbers as their bits: the low ones, all of them the other way, how many are ones.
 // What comes in: numbers and widths up to 64, masks of ports.
 // What goes out: one number for each, the one that `language`'s specs/Values.antt defines.
+#![tactic(auto)]
+
 ghost use Rattle.std.specs.Prelude.{◌≡◌, ◌-◌, ◌%◌, ◌^◌, ◌≤◌, ◌<◌, max};
 ghost use Rattle.language.specs.Values.{ones_of, one_bit};
 ghost use Rattle.language.specs.Values.{complement as values_complement, plain_width as values_plain_width};

@@ -1,6 +1,8 @@
 // One cycle over a plan, and runs of cycles.
 // What comes in: a plan, a mask, values, memory, outputs. What goes out: the answer, the number of
 // present ports, and the outputs and memory as the plan means them.
+#![tactic(auto)]
+
 mod runs;
 
 ghost use Rattle.std.specs.Prelude.{◌≡◌};

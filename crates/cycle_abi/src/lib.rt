@@ -1,6 +1,8 @@
 // The cycle and the run for programs in other languages: what the benchmark of bench/ links.
 // What comes in: a plan and tables, each as a pointer and a length.
 // What goes out: `cycle`'s answer, and all that `run` gives.
+#![tactic(auto)]
+
 ghost use Rattle.std.specs.Prelude.{◌≡◌};
 ghost use Rattle.turn.specs.Cycle.{cycle_of};
 ghost use Rattle.cycle.specs.Run.{result, run_of};

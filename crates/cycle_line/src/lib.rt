@@ -1,6 +1,8 @@
 // The line that is written for a cycle: its answer, and where it is 0 the number of present ports and the outputs.
 // What comes in: a plan, a cycle's answer and outputs, a table of bytes with room for a line, and a place in it.
 // What goes out: the line's bytes from that place on, and the place after them.
+#![tactic(auto)]
+
 ghost use Rattle.std.specs.Prelude.{◌≡◌, ◌+◌, ◌≤◌, length};
 ghost use Rattle.language.specs.Limits.{limits};
 ghost use Rattle.figures.specs.Written.{Wrote, blanked, number_bytes};

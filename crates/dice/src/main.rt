@@ -1,6 +1,8 @@
 // The dice: a shift register as wide as a port's type, set once and rolled past its whole period from one plan.
 // What comes in: the actor, on standard input. What goes out: the face of each roll, one to a line, or the number and the
 // place of a refusal; tests/dice.py works the same faces out by its own arithmetic.
+#![tactic(auto)]
+
 ghost use Rattle.std.specs.Prelude.{◌≤◌, length};
 
 use libc::{STDIN_FILENO, STDOUT_FILENO};

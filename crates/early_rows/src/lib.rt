@@ -1,6 +1,8 @@
 // Rows 6 to 9 of document 01, in order: the first fault of an actor that the grammar takes.
 // What comes in: the texts, the tape of the actor and the table of the bindings' lines.
 // What goes out: the first fault, with its row, its text and its place, or that there is none.
+#![tactic(auto)]
+
 ghost use Rattle.std.specs.Prelude.{List, ◌≤◌, length};
 ghost use Rattle.language.specs.Words.{Word};
 ghost use Rattle.language.specs.Tree.{Actor};

@@ -1,6 +1,8 @@
 // Exact values of types: whole numbers with logs that are not rounded, until a value is floored.
 // What comes in: numbers, and values that leave room for a sum and a product.
 // What goes out: a value, its comparison, and at the end a width or a bit position.
+#![tactic(auto)]
+
 ghost use Rattle.std.specs.Prelude.{◌≡◌, ◌+◌, ◌*◌, ◌^◌, ◌≤◌, ◌<◌, leb};
 ghost use Rattle.language.specs.Types.{whole_of, log_of, plus_of, minus_of, not_above, greater_of, log_down, log_up, floor_of, ceil_of, width_of, position_of};
 ghost use Rattle.exact.specs.Room.{Space, Room, positioned};

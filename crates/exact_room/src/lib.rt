@@ -1,6 +1,8 @@
 // Whether exact values can be reckoned with: the sums and products of their parts fit 64 bits.
 // What comes in: one exact value or two.
 // What goes out: whether floor and ceil can take the one, and any operation the two.
+#![tactic(auto)]
+
 ghost use Rattle.std.specs.Prelude.{◌≡◌, ◌+◌, ◌*◌, ◌/◌, ◌<◌};
 ghost use Rattle.exact_room.specs.Tests.{fits, has_space, sums_fit, products_fit, has_room};
 

@@ -1,6 +1,8 @@
 // Expressions: `if`, choices, operators by their levels, operands.
 // What comes in: the words, the tape, the index of the first word and the length of the tape; whether a `|` that ends an arm may
 // follow. What goes out: the items of what was read, after those that are on the tape, or the first word that does not fit.
+#![tactic(auto)]
+
 ghost use Rattle.std.specs.Prelude.{◌≤◌};
 ghost use Rattle.language.specs.Grammar.{loosest};
 ghost use Rattle.signs.specs.Kinds.{brace_kind, case_kind, if_kind, name_kind, number_kind, open_kind, rest_kind};

@@ -1,6 +1,8 @@
 // Where a run stands in its input, and numbers as they are read and written, digit by digit.
 // What comes in: a state and a byte, or a number and a table of bytes. What goes out: the state after the byte; the number's
 // bytes in the table.
+#![tactic(auto)]
+
 mod moves;
 mod numbers;
 

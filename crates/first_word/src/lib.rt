@@ -1,6 +1,8 @@
 // What stands first at a place of a text: a separator, a word, or what is none.
 // What comes in: a text and a place. What goes out: the separator's length; the word's kind, length and, of a plain
 // number, value; or that the text is over or no word stands there.
+#![tactic(auto)]
+
 ghost use Rattle.std.specs.Prelude.{◌≡◌, true, ◌+◌, ◌≤◌, ◌<◌, length, drop, get_or};
 ghost use Rattle.language.specs.Words.{span as span_of, gap as gap_of, name_byte, own_name, named_next, name_next, quote_next, next as next_of};
 ghost use Rattle.spelling.specs.Fixed.{fixed_rows};

@@ -1,6 +1,8 @@
 // Separators: blanks, tabs, ends of lines and comments.
 // What comes in: a text and a place. What goes out: how long the separator there is, if one is there; the place after all
 // separators.
+#![tactic(auto)]
+
 ghost use Rattle.std.specs.Prelude.{◌≡◌, ◌+◌, ◌≤◌, length, drop};
 ghost use Rattle.language.specs.Words.{blank, close as close_of};
 ghost use Rattle.gaps.specs.Gaps.{GapAt, AfterGaps};

@@ -1,6 +1,8 @@
 // The head of an actor, all that stands before its groups: its name, signature, ports and memories.
 // What comes in: the words, the tape, the index of the first word and the length of the tape. What goes out: the items of
 // what was read, after those that are on the tape, or the first word that does not fit.
+#![tactic(auto)]
+
 ghost use Rattle.std.specs.Prelude.{◌≡◌, true, ◌*◌};
 ghost use Rattle.tape.specs.Tape.{one_if};
 ghost use Rattle.readers.specs.Meets.{Room, Within};

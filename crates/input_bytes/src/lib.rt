@@ -1,6 +1,8 @@
 // What a byte of the input does at each stage, and what is still to be written where the input ends; all but the reading of the two texts.
 // What comes in: a state, a byte, and the tables: of the texts, the plan, the ports and the cells, and of bytes to be written.
 // What goes out: the state and the tables after the byte, a cycle's line at the end of its input line; the last bytes of a run.
+#![tactic(auto)]
+
 ghost use Rattle.std.specs.Prelude.{[]};
 ghost use Rattle.cycle_line.specs.Shown.{line_bytes};
 ghost use Rattle.input_bytes.specs.Lines.{Roomy};

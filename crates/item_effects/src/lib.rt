@@ -1,6 +1,8 @@
 // What each settled item does, and what is then written in the tables of row 11's walk.
 // What comes in: an item's six numbers, the widths and first bytes of the expressions that wait, the tables.
 // What goes out: its effect; the tables with what it leaves, keeps, adds to the code, and ends.
+#![tactic(auto)]
+
 mod leaves;
 mod over;
 mod steps;

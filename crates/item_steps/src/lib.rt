@@ -1,6 +1,8 @@
 // One item of a sound rule: no test is left to be made.
 // What comes in: the item, values, memory, slots, and the tables that a cycle works in.
 // What goes out: these tables after it, how many values wait, and whether a cell was written twice.
+#![tactic(auto)]
+
 ghost use Rattle.std.specs.Prelude.{◌≡◌, false, List, ◌∷◌, ℕ, ◌+◌, ◌-◌, ◌≤◌, ◌<◌, eqb, length, get_or, set, drop};
 ghost use Rattle.plan.specs.Sound.{waiting};
 ghost use Rattle.plan.specs.Waits.{top};

@@ -1,6 +1,8 @@
 // The width that an item leaves, if it leaves one: the tests of soundness, a family at a time.
 // What comes in: an item, the plan, the widths that wait and those of the slots.
 // What goes out: the width that waits next, or that the item is not sound.
+#![tactic(auto)]
+
 ghost use Rattle.std.specs.Prelude.{◌≡◌, ◌&&◌, [], ◌+◌, ◌*◌, ◌^◌, ◌≤◌, ◌<◌, max, eqb, leb, ltb, length, get_or};
 ghost use Rattle.language.specs.Limits.{limits};
 ghost use Rattle.language.specs.Values.{binary_width, range_width};

@@ -1,6 +1,8 @@
 // What one item of a tape does when an actor is settled (specs/Walk.antt): what it writes, and what it does to the types that wait.
 // What comes in: the actor's text and tape, its bindings, the widths of its ports and memories, the types that wait in their
 // tables. What goes out: nothing or six numbers; the types that wait after it.
+#![tactic(auto)]
+
 mod nodes;
 pub mod writes;
 

@@ -1,6 +1,8 @@
 // What is known of a cycle before anything is run.
 // What comes in: a sound plan, a mask, values, memory. What goes out: the rules that fire, or why
 // the cycle is refused, and the numbers of its answers.
+#![tactic(auto)]
+
 mod groups;
 mod tests;
 

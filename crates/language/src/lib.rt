@@ -1,6 +1,8 @@
 // The kinds of things that document 01 speaks of: texts, operators, exact values, and what has a limit.
 // What comes in: nothing; this crate is the ground. What goes out: these types, each limit once,
 // and in specs/ what an actor text with its bindings means.
+#![tactic(auto)]
+
 ghost use Rattle.std.specs.Prelude.{◌≡◌};
 ghost use Rattle.language.specs.Limits.{limits};
 

@@ -1,6 +1,8 @@
 // The line at a place of one of the two texts, as document 01 hands it out with a fault.
 // What comes in: the actor's text and the bindings', which of them is meant, and a place.
 // What goes out: a part of that text, the line without its line end; the empty part at the text's end for a place outside it.
+#![tactic(auto)]
+
 ghost use Rattle.std.specs.Prelude.{◌≡◌, [], ◌≤◌, length};
 ghost use Rattle.language.specs.Text.{line_from};
 ghost use Rattle.lines.specs.Bounds.{start_of, end_of, LineStands, LineOf};

@@ -1,6 +1,8 @@
 // What a name stands for, by number: ports in the order of the signature, memories and `val`s in their own, lines of the bindings.
 // What comes in: a text and its tape, a name or its place; of the bindings, their text and table. What goes out: where the name
 // stands among those of its kind, or how many they are where it does not; sizes, widths and values by such numbers.
+#![tactic(auto)]
+
 ghost use Rattle.tape.specs.Tape.{most_items};
 ghost use Rattle.std.specs.Prelude.{◌≡◌, List, ℕ, ◌+◌, ◌-◌, ◌*◌, ◌≤◌, ◌<◌, length, get_or, take};
 ghost use Rattle.language.specs.Text.{index};

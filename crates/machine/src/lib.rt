@@ -1,6 +1,8 @@
 // The code of the rules that fire, over tables that nobody sees.
 // What comes in: a sound plan, the rules that fire, values, memory. What goes out: the outputs, the
 // cells as they will be, and whether a cell was written twice.
+#![tactic(auto)]
+
 mod code;
 mod tables;
 

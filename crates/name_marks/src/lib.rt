@@ -1,6 +1,8 @@
 // The marks of names: which are spelled `p` and `type`, and which are among the memories.
 // What comes in: the text, the table of its words, and a tape with the memories or an empty one.
 // What goes out: the table, whose names are marked.
+#![tactic(auto)]
+
 ghost use Rattle.std.specs.Prelude.{◌≡◌, drop};
 ghost use Rattle.language.specs.Text.{same, among};
 ghost use Rattle.language.specs.Words.{span, name_byte};

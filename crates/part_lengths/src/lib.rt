@@ -1,6 +1,8 @@
 // The types and whole expressions of a tape: going back from the item that holds one finds its words and its first word.
 // What comes in: the tape up to an item, the table of the text's words, and limits.
 // What goes out: the place of the first word too many, by the table of the words.
+#![tactic(auto)]
+
 ghost use Rattle.std.specs.Prelude.{◌≡◌, ◌+◌, ◌-◌, ◌*◌, ◌≤◌, ◌<◌, length, drop};
 ghost use Rattle.language.specs.Text.{earliest};
 ghost use Rattle.words.specs.Found.{place_told};

@@ -1,6 +1,8 @@
 // A plain number, whose digits are of any length: its value, or that it is over the limit.
 // What comes in: a text and the place of a digit. What goes out: the number's word, or that it is wrong.
 // The value stops growing past the limit, so that 64 bits hold it.
+#![tactic(auto)]
+
 ghost use Rattle.std.specs.Prelude.{◌≡◌, true, ◌≤◌, ◌<◌, length, drop, get_or};
 ghost use Rattle.language.specs.Words.{digit, span as span_of, number_next};
 ghost use Rattle.signs.specs.Tells.{Tells};

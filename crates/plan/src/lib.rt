@@ -1,6 +1,8 @@
 // The plan: its items and its layout. Whether it is sound is the crate `soundness`.
 // What comes in: a list of 32-bit numbers. What goes out: its numbers by name, and the items of its code.
 // The plan of an accepted actor is a definition of the crate `plan_of`.
+#![tactic(auto)]
+
 mod items;
 mod layout;
 

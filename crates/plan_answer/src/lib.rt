@@ -1,6 +1,8 @@
 // The last step of reading: the plan is put together, or there is no room for it (row 13 of document 01).
 // What comes in: settled items, the code of the rules with the length of each, the lent table.
 // What goes out: the plan's length or a refusal, as a user gets it; the table with the plan at its start, or as it stood.
+#![tactic(auto)]
+
 ghost use Rattle.language.specs.Limits.{limits};
 ghost use Rattle.settled.specs.Form.{most_settled};
 ghost use Rattle.std.specs.Prelude.{◌≡◌, ◌*◌, ◌≤◌, length};

@@ -1,6 +1,8 @@
 // Whether the sections of a plan are sound: each count within its limit, and what each section holds.
 // What comes in: a list of 32-bit numbers, of any length.
 // What goes out: whether its sections hold, and end where the list does.
+#![tactic(auto)]
+
 ghost use Rattle.std.specs.Prelude.{◌≡◌, ◌&&◌, suc, ◌+◌, ◌≤◌, eqb, leb, length};
 ghost use Rattle.language.specs.Limits.{limits};
 ghost use Rattle.plan.specs.Layout.{form, port_count, memory_count, cells_before, group_count, rules_before, rule_count, code_before, code_from, code_count};

@@ -1,6 +1,8 @@
 // Values put together and taken apart: `{a, b}`, copies, `[i:j]`, and one of two.
 // What comes in: numbers below 2 to the power of their widths, widths and positions up to 64.
 // What goes out: one number for each, the one that `language`'s specs/Values.antt defines.
+#![tactic(auto)]
+
 ghost use Rattle.std.specs.Prelude.{◌≡◌, ◌≤◌, ◌<◌, ◌^◌};
 ghost use Rattle.language.specs.Values.{beside_of, copies_of, range_width, range_of};
 ghost use Rattle.language.specs.Values.{chosen as values_chosen};

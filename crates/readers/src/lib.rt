@@ -1,6 +1,8 @@
 // What all readers of words share: the table of words that they look at, the tape that they put items on, where they came to.
 // What comes in: words whose names are marked, and a tape. What goes out: a word's kind and numbers, marks of names,
 // levels of operators; an item on the tape.
+#![tactic(auto)]
+
 mod items;
 mod look;
 

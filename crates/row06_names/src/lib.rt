@@ -1,6 +1,8 @@
 // Row 6 of document 01: the names of an actor, read off its tape and its text.
 // What comes in: the text, and the tape that holds its actor. What goes out: the earliest place of a name that is
 // unknown, declared twice, of the wrong kind or twice in a list.
+#![tactic(auto)]
+
 ghost use Rattle.std.specs.Prelude.{◌≡◌, List, ◌*◌, ◌≤◌, ◌<◌, length};
 ghost use Rattle.language.specs.Text.{earliest};
 ghost use Rattle.language.specs.Words.{Word};

@@ -1,6 +1,8 @@
 // Row 7 of document 01: what an actor has over a limit that no other row names, read off its tape and its text.
 // What comes in: the text, and the tape that holds its actor. What goes out: the earliest place of a port, memory, group,
 // rule or `val` too many, of a bad size or number of copies, or of the first word too many of a type or an expression.
+#![tactic(auto)]
+
 mod items;
 
 ghost use Rattle.std.specs.Prelude.{◌≡◌, List, ◌*◌, ◌≤◌, length};

@@ -1,6 +1,8 @@
 // Row 8 of document 01: the rules of types, read off an actor's tape.
 // What comes in: the tape that holds the actor. What goes out: the earliest place of a number over its limit, a port's
 // type after `-`, a `max` that may not stand there, or a log in a log or third among those that stand together.
+#![tactic(auto)]
+
 ghost use Rattle.std.specs.Prelude.{◌≡◌, List, ℕ, ◌+◌, ◌*◌, ◌-◌, ◌/◌, ◌≤◌, ◌<◌, length, take, drop};
 ghost use Rattle.language.specs.Text.{earliest};
 ghost use Rattle.language.specs.Words.{Word};

@@ -1,6 +1,8 @@
 // Row 9 of document 01: the bindings of an actor, read off its tape and the table of the bindings' lines.
 // What comes in: the actor's text and tape, the bindings' text and table. What goes out: the earliest line that binds no
 // port or no environment name of the actor, and the earliest name of the actor that has neither a type nor a binding.
+#![tactic(auto)]
+
 ghost use Rattle.std.specs.Prelude.{◌≡◌, ◌+◌, ◌-◌, ◌*◌, ◌≤◌, ◌<◌, length};
 ghost use Rattle.language.specs.Text.{index, earliest};
 ghost use Rattle.language.specs.Widths.{strangers as strangers_of, unsettled as unsettled_of};

@@ -1,6 +1,8 @@
 // Row 10 of document 01: the widths of an actor's ports and memories, by their types and the bindings.
 // What comes in: the actor's text and tape, the bindings' text and table, and cells for the widths. What goes out: how
 // many widths there are, the ports' in the order of the signature and then the memories', or that no widths satisfy every type.
+#![tactic(auto)]
+
 ghost use Rattle.std.specs.Prelude.{List, ◌+◌, ◌≤◌, length};
 ghost use Rattle.language.specs.Limits.{limits};
 ghost use Rattle.language.specs.Words.{Word};

@@ -1,6 +1,8 @@
 // Row 11 of document 01: how wide each expression is, the first fault, and the plan's code.
 // What comes in: the settled items of an actor, six numbers each. What goes out: the earliest place of a constant too big, a bit
 // outside, an expression over 64 wide or a value wider than its target; and the code of the rules, with the length of each.
+#![tactic(auto)]
+
 ghost use Rattle.settled.specs.Form.{most_settled};
 ghost use Rattle.std.specs.Prelude.{◌≡◌, ◌+◌, ◌*◌, ◌≤◌, ◌<◌, length};
 ghost use Rattle.laws.specs.Tables.{Kept};

@@ -1,6 +1,8 @@
 // Row 12 of document 01: what a rule reads and assigns is present in it, and an output is assigned once.
 // What comes in: the settled items of an actor, six numbers each. What goes out: the earliest place of an input read or an
 // output assigned without `.p.1` in its rule, or of an output assigned twice in a rule or in two groups.
+#![tactic(auto)]
+
 ghost use Rattle.std.specs.Prelude.{◌≡◌, ◌*◌, ◌≤◌, length, take};
 ghost use Rattle.words.specs.declared.Place.TheVariants.{Nowhere};
 ghost use Rattle.row12_presence.specs.Walk.{has, with_port, faulty, next_of, soonest, begin, walk};

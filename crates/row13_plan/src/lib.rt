@@ -1,6 +1,8 @@
 // The plan of an accepted actor, written into a lent table.
 // What comes in: the settled items of the actor, six numbers each, and its rules' code with their lengths. What goes out:
 // how many numbers the plan has, with the plan at the table's start; or that the table is too short, and the table as it stood.
+#![tactic(auto)]
+
 ghost use Rattle.settled.specs.Form.{most_settled};
 ghost use Rattle.std.specs.Prelude.{◌≡◌, ◌+◌, ◌*◌, ◌≤◌, ◌∷◌, length, take};
 ghost use Rattle.std.proofs.lemmas.List.Edits.{sets};

@@ -1,6 +1,8 @@
 // Rules and groups: the lists of statements, the rules with their entries, and the constraint that ends an actor.
 // What comes in: the words, the tape, the index of the first word and the length of the tape. What goes out: the items of
 // what was read, after those that are on the tape, or the first word that does not fit.
+#![tactic(auto)]
+
 mod lists;
 mod statement;
 

@@ -1,6 +1,8 @@
 // What a settled item gives its section of the plan: a port, a memory, a group or a rule.
 // What comes in: the settled items, six numbers each, the place of one, and the lengths of the rules' code.
 // What goes out: its numbers in the plan's table, and the place after them.
+#![tactic(auto)]
+
 ghost use Rattle.std.specs.Prelude.{◌≡◌, ◌+◌, ◌%◌, ◌^◌, ◌≤◌, length, slice_index};
 ghost use Rattle.section_items.specs.Items.{rules_up_to, bit_of, mask_up_to};
 ghost use Rattle.section_items.specs.Sections.{items_from, item_at, width_of, numbers_of, Few, Put};

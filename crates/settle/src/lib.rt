@@ -1,6 +1,8 @@
 // The settled items of an actor (crate settled, specs/Settled.antt), by one walk over its tape (crate item_writes, specs/Walk.antt), whatever stands on it.
 // What comes in: the actor's text and tape, its bindings, the widths of its ports and memories. What goes out: items of six
 // numbers, an operation, a place and four operands: names by number, types by value, in the order of the tape.
+#![tactic(auto)]
+
 mod items;
 mod steps;
 

@@ -1,6 +1,8 @@
 // Settled items: an actor with its names and types settled, six numbers an item (specs/Form.antt), as a definition of the actor
 // (specs/Settled.antt). What comes in: nothing. What goes out: the items' operations, each once; `settle` writes such items,
 // rows 11 to 13 go by them.
+#![tactic(auto)]
+
 mod numbers;
 
 pub use numbers::{

@@ -1,6 +1,8 @@
 // The kinds of words, and the signs: operators and punctuation.
 // What comes in: a text and a place. What goes out: the sign that stands there, the longest first, as what stands first at a
 // place.
+#![tactic(auto)]
+
 pub mod kinds;
 
 ghost use Rattle.std.specs.Prelude.{◌≡◌, ◌<◌, length, drop};

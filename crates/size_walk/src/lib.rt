@@ -1,6 +1,8 @@
 // Row 11's walk as definitions (specs/), and the parts of it that stand alone: how an effect is put together, what the items do
 // that end a statement, and how far the walk is after an item. What comes in: widths, first bytes and operands. What goes out:
 // what an item does, as a value; where the walk stands next.
+#![tactic(auto)]
+
 mod effects;
 mod statements;
 mod turns;

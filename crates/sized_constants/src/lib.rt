@@ -1,6 +1,8 @@
 // The value of a sized constant: its digits are of any length, so it is exact or known to be too big.
 // What comes in: a text and the place of the constant's `'`. What goes out: its value, or that 64 bits do not hold it;
 // the base that a letter names.
+#![tactic(auto)]
+
 ghost use Rattle.std.specs.Prelude.{◌≡◌, true, ℕ, ◌+◌, ◌*◌, ◌≤◌, length, drop};
 ghost use Rattle.language.specs.Words.{digit_of, digit_in, base_of, span as span_of, value_in_base};
 ghost use Rattle.sized_constants.specs.Constant.{amount_of, constant_at, most_base};

@@ -1,6 +1,8 @@
 // Bytes of a text at a place: how many of a class stand there, two bytes, a part, a name.
 // What comes in: a text and a place. What goes out: how many bytes of the class, whether the two stand there, the part;
 // what a letter or digit is worth.
+#![tactic(auto)]
+
 ghost use Rattle.std.specs.Prelude.{◌≡◌, true, [], ◌∷◌, ◌+◌, ◌≤◌, length, take, drop};
 ghost use Rattle.language.specs.Words.{begins, plain_byte, digit_of, digit_in, span as span_of, name_byte};
 ghost use Rattle.spans.specs.Spans.{test_of};

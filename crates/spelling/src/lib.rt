@@ -1,6 +1,8 @@
 // What a name is made of, and the words that are spelled like names but are none.
 // What comes in: a text and a part of it, by its place and length. What goes out: whether the part
 // is a name, and which of the fixed words it is.
+#![tactic(auto)]
+
 ghost use Rattle.std.specs.Prelude.{◌≡◌, ◌<◌, length, get_or, ◌∷◌};
 ghost use Rattle.language.specs.Text.{index, same};
 ghost use Rattle.language.specs.Words.{digit, plain_byte, name_byte, some_of, good_name, spellings};

@@ -1,6 +1,8 @@
 // The tape: what an actor's text says, as items of three numbers, an operation, a place and a value (specs/Tape.antt).
 // What comes in: a text and the tape of its actor. What goes out: what every row asks of them: an item's class, the name at
 // a place, whether a name is said by some item; the operations, each once.
+#![tactic(auto)]
+
 mod numbers;
 
 ghost use Rattle.std.specs.Prelude.{◌≡◌, ◌||◌, ◌*◌, ◌≤◌, length};

@@ -1,6 +1,8 @@
 // The simulator as its users meet it: `read` makes a plan of an actor's text with its bindings, `line` shows the line of a
 // fault, `cycle` and `run` run cycles from a plan. What comes in: texts, tables, masks and values, of any kind. What goes
 // out: an answer for each, with the plan, the memory and the outputs, or these as they stood.
+#![tactic(auto)]
+
 pub use cycle::{cycle, run};
 pub use lines::line;
 pub use plan_answer::Answer;

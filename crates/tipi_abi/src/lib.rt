@@ -1,6 +1,8 @@
 // Reading for programs in other languages: what the script of tests/plans/ links, to print plans.
 // What comes in: two texts and a table as a pointer and a length each, and a pointer to two numbers.
 // What goes out: `tipi::read`'s answer as three numbers, its row returned, its place and text told, and the plan in the table.
+#![tactic(auto)]
+
 ghost use Rattle.std.specs.Prelude.{◌≡◌};
 ghost use Rattle.tipi_abi.specs.Numbers.{number_of, Numbered};
 

@@ -1,6 +1,8 @@
 // The worked run of document 01: an actor, its bindings and cycles on standard input, of any length.
 // What comes in: bytes, a few at a time. What goes out: a line for each cycle and the cells; or a
 // refusal's number and place; or `bad`. What each byte does is proved; `main` only moves bytes.
+#![tactic(auto)]
+
 mod steps;
 mod texts;
 

@@ -1,6 +1,8 @@
 // One cycle of a sound plan: it is judged, the rules act where nobody sees, and what they leave is committed.
 // What comes in: a sound plan, a mask, values, memory, outputs, and tables to work in. What goes out: the
 // answer and the number of present ports, and the outputs and memory as the plan means them.
+#![tactic(auto)]
+
 ghost use Rattle.std.specs.Prelude.{◌≡◌, true, ◌≤◌, length, take};
 ghost use Rattle.plan.specs.Sound.{sound_of};
 ghost use Rattle.item_steps.specs.Tables.{Tables};

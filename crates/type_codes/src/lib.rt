@@ -1,6 +1,8 @@
 // The types of an actor in code, each node after its operands, as `typing` reads them.
 // What comes in: the tape, with the texts and the bindings' table for its names.
 // What goes out: the nodes of each wanted width, in a slot of its own.
+#![tactic(auto)]
+
 ghost use Rattle.std.specs.Prelude.{[], ◌∷◌, ◌++◌, ◌+◌, ◌-◌, ◌*◌, ◌/◌, ◌≤◌, ◌<◌, length, take, drop};
 ghost use Rattle.language.specs.Limits.{limits};
 ghost use Rattle.bindings.specs.Table.{Lined};

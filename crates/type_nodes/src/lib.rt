@@ -1,6 +1,8 @@
 // What an item of the tape is to the declared types, and the node of a type that it stands for.
 // What comes in: the tape, with the texts and the bindings' table for its names. What goes out: an item's role and node,
 // how many ports and memories are declared, and where the type that is sought ends.
+#![tactic(auto)]
+
 ghost use Rattle.std.specs.Prelude.{◌≡◌, ◌+◌, ◌-◌, ◌*◌, ◌/◌, ◌≤◌, ◌<◌, length, take};
 ghost use Rattle.language.specs.Limits.{limits};
 ghost use Rattle.language.specs.Text.{index};

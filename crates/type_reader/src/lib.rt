@@ -1,6 +1,8 @@
 // Types, and what else of an expression holds no expression: constants and bit positions.
 // What comes in: the words, the tape, the index of the first word and the length of the tape. What goes out: the items of
 // what was read, after those that are on the tape, or the first word that does not fit.
+#![tactic(auto)]
+
 mod constants;
 
 ghost use Rattle.std.specs.Prelude.{◌+◌, ◌-◌, ◌≤◌};

@@ -1,6 +1,8 @@
 // The value of a type with exact logs, at widths of the unknowns.
 // What comes in: a type in code, a number a node, each node after its operands; the unknowns stand by index.
 // What goes out: the value, a width, or a bit position or Outside; 0 where no type's code stands.
+#![tactic(auto)]
+
 ghost use Rattle.std.specs.Prelude.{◌≡◌, ◌+◌, ◌*◌, ◌/◌, ◌%◌, ◌≤◌, ◌<◌, length};
 ghost use Rattle.language.specs.Limits.{limits};
 ghost use Rattle.language.specs.Types.{width_of, position_of};

@@ -1,6 +1,8 @@
 // The least widths of all ports and memories of an actor together.
 // What comes in: their types in code, each between two indices; the unknowns stand by index.
 // What goes out: the least widths that satisfy every type, or false.
+#![tactic(auto)]
+
 ghost use Rattle.std.specs.Prelude.{◌≡◌, List, length, replicate};
 ghost use Rattle.type_value.specs.Terms.{Term};
 ghost use Rattle.typing.specs.Solved.{Coded, Answer};

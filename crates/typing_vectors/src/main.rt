@@ -1,6 +1,8 @@
 // Runs the table of types and systems that tests/typing_vectors.py makes through `typing`.
 // What comes in: standard input, fields of six digits; each code is judged first, so that what `typing` promises of a type is told of it.
 // What goes out: for a type its width and bit position, for a system whether it has widths, and these.
+#![tactic(auto)]
+
 mod judge;
 
 ghost use Rattle.std.specs.Prelude.{◌≡◌, ◌≤◌, ◌<◌, length};

@@ -1,6 +1,8 @@
 // Runs the operators of `value` on vectors, which tests/value_vectors.py makes from document 01.
 // What comes in: lines of five numbers, which operator (`answer`), two widths or places, two operands.
 // What goes out: a line for each, the number that the operator gives, or `refused` where a `requires` is not met.
+#![tactic(auto)]
+
 mod lines;
 
 ghost use Rattle.std.specs.Prelude.{◌≡◌, ◌^◌, ltb};

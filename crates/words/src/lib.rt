@@ -1,6 +1,8 @@
 // From the actor's bytes to the table of its words (rows 3 and 4 of document 01).
 // What comes in: a text and a lent table. What goes out: the number of words, each four numbers in
 // the table (kind, place, length, value), or the place of the first bad word.
+#![tactic(auto)]
+
 ghost use Rattle.std.specs.Prelude.{◌≡◌, [], ◌∷◌, ◌+◌, ◌*◌, ◌≤◌, ◌<◌, length};
 ghost use Rattle.std.proofs.lemmas.List.Edits.{sets};
 ghost use Rattle.language.specs.Limits.{limits};
