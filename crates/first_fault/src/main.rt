@@ -19,7 +19,7 @@ const NUMBERS: usize = tape::LENGTH;
 // What is kept of a count before its next digit: more than a text is long.
 const COUNTED: usize = 65536;
 
-#[derive(Drop)]
+#[derive(Clone, Copy)]
 struct Numeral {
     value: usize,
     next: usize,

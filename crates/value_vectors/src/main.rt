@@ -16,7 +16,7 @@ const STDIN: i32 = 0;
 const STDOUT: i32 = 1;
 
 // One call of `value` for each operator, where what it requires is met.
-#[derive(Drop)]
+#[derive(Clone, Copy)]
 pub enum Tried {
     Refused,
     Gives(u64),
