@@ -54,7 +54,7 @@ pub enum Binary {
 }
 
 // The exact value of a type: `up` less `down`, and the logarithm of `a` less that of `b`.
-#[derive(Drop)]
+#[derive(Clone, Copy)]
 pub struct Exact {
     pub up: u64,
     pub down: u64,
