@@ -7,15 +7,16 @@
 #     (cd ../other && tests/plans/print.sh FOLDER > before.txt)
 #     tests/plans/print.sh FOLDER > after.txt && diff ../other/before.txt after.txt
 #
-# It proves `tipi_abi` and what it needs where that is not done yet (`rt staticlib`), and needs `rustc` and `python3` beside `rt`.
+# It proves `tipi_abi` and what it needs where that is not done yet (`rt lib`), and needs `rustc` and `python3` beside `rt`.
 # A commit from before this script gets crates/tipi_abi with its line of crates.txt, tests/plans and tests/evaluator of a later one.
 set -eu
 [ $# -ge 1 ] || { echo "usage: print.sh FOLDER [COUNT [FIRST]]" >&2; exit 2; }
 folder=$(cd "$1" && pwd)
 root=$(cd "$(dirname "$0")/../.." && pwd)
 cd "$root"
-rt staticlib tipi_abi >&2
-rustc -O --edition 2021 tests/plans/print.rs -L target/staticlib -l static=tipi_abi -o target/print
+rt lib tipi_abi >&2
+mkdir -p target
+rustc -O --edition 2021 tests/plans/print.rs -L crates/tipi_abi/out -l static=tipi_abi -o target/print
 made=target/plans
 rm -rf "$made"
 mkdir -p "$made"

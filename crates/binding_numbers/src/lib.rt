@@ -9,7 +9,7 @@ ghost use Rattle.language.specs.Bindings.{digits_from, number_up_to};
 ghost use Rattle.binding_numbers.specs.Steps.{grown_of, ended, valued, number_told, Greatest, Reads};
 
 // Where reading a part came to.
-#[derive(Drop)]
+#[derive(Clone, Copy)]
 pub enum Step {
     // The place after the part, and a number that was read.
     Went(usize, usize),

@@ -16,7 +16,7 @@ use binding_names::name;
 use binding_numbers::{Step, blank_number, number_line};
 
 // What reading the whole text gives.
-#[derive(Drop)]
+#[derive(Clone, Copy)]
 pub enum Answer {
     // So many lines of widths, then so many of values.
     Bound(u32, u32),
@@ -27,7 +27,7 @@ pub enum Answer {
 }
 
 // How many lines of the table bind widths, and how many after them values.
-#[derive(Drop)]
+#[derive(Clone, Copy)]
 pub struct Lines {
     pub widths: usize,
     pub values: usize,

@@ -5,8 +5,12 @@
 
 ghost use Rattle.std.specs.Prelude.{◌≤◌, length};
 
-use libc::{STDIN_FILENO, STDOUT_FILENO};
 use tipi::Answer;
+
+// The standard streams, as file descriptors.
+const STDIN: i32 = 0;
+
+const STDOUT: i32 = 1;
 
 // One cycle that sets the register, then the rolls: more than the 255 states of eight bits.
 const CYCLES: usize = 301;
@@ -15,8 +19,8 @@ const CYCLES: usize = 301;
 const PORTS: usize = 3;
 
 fn say(n: u64) {
-    io::print_decimal(STDOUT_FILENO, n);
-    io::write_all(STDOUT_FILENO, b"\n");
+    io::print_decimal(STDOUT, n);
+    io::write_all(STDOUT, b"\n");
 }
 
 // The face of each cycle but the first.
@@ -52,7 +56,7 @@ fn roll(plan: &[u32]) {
 
 fn main() {
     let mut actor = io::buffer();
-    let n = io::read_full(STDIN_FILENO, &mut actor);
+    let n = io::read_full(STDIN, &mut actor);
     let mut plan = [0u32; 1024];
     match tipi::read(&actor[..n], b"1\nseed 8\n0\n", &mut plan) {
         Answer::Plan(l) => {

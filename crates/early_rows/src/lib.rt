@@ -15,7 +15,7 @@ use language::Text;
 use words::Place;
 
 // The first fault, with its row, text and place, or none.
-#[derive(Drop)]
+#[derive(Clone, Copy)]
 pub enum Verdict {
     Stopped(u32, Text, u32),
     Through,

@@ -1,16 +1,14 @@
 -- The logs of ratios rounded down and up, by the fewest bits that hold a number. Assumes nothing.
-use mathlib.Core.Path.{◌≡◌, refl, sym, ap, ◌∙◌, subst}
-use mathlib.Core.Bool.{Bool, true, false}
+use mathlib.Core.Path.{◌≡◌, sym, ap, ◌∙◌, subst}
 use mathlib.Core.Logic.{◌↔◌}
 use Prim.Native.Nat.{ℕ, zero, suc, ◌+◌, ◌-◌, ◌*◌, ◌/◌, ◌^◌, ◌≤◌, ◌<◌}
-use native.Mathlib.Nat.{le_refl, le_trans, lt_of_lt_of_le, lt_of_le_of_lt, le_of_suc-le-suc, lt_irrefl, add-zero, add-suc, mul_assoc, one-mul, mul-le-mul_left, mul-le-mul_right, mul-lt-mul_of_pos_left, div-lt_iff_lt-mul, le-div_iff_mul-le, div-le_self, div-eq_of_lt, sub-le, zero-lt-suc, pow-suc, not-le_of_lt, lt_of_not-le, pos_of_ne-zero}
+use native.Mathlib.Nat.{le_trans, lt_of_lt_of_le, lt_of_le_of_lt, le_of_suc-le-suc, add-zero, add-suc, mul_assoc, one-mul, mul-le-mul_left, mul-le-mul_right, mul-lt-mul_of_pos_left, div-lt_iff_lt-mul, le-div_iff_mul-le, div-le_self, div-eq_of_lt, sub-le, zero-lt-suc, pow-suc, not-le_of_lt, lt_of_not-le, pos_of_ne-zero}
 use native.Mathlib.Decide.{dec_le, ℕ_discrete}
 use native.Mathlib.Omega.{arith}
 use lib.Pow.{pow_pos, pow_mono, pow-add}
 use lib.Count.{count_leading_zeros, leading_top, leading_of_zero}
-use borrow.Author.Tests.{ne_eqb}
 use Rattle.language.specs.Types.{fewest, log_down, log_up}
-use Rattle.language.proofs.Fewest.{fewest_none, fewest_holds, fewest_below, fewest_is}
+use Rattle.language.proofs.Fewest.{fewest_none, fewest_is}
 
 -- a word's leading zeros are what is left of it
 pub fewest_bits : (k n : ℕ) → n < 2 ^ k → count_leading_zeros k n + fewest n ≡ k

@@ -10,7 +10,7 @@ ghost use Rattle.exact.specs.Room.{Space, Room, positioned};
 use language::Exact;
 
 // A bit position as a type gives it; one below zero is outside.
-#[derive(Drop)]
+#[derive(Clone, Copy)]
 pub enum Position {
     At(u64),
     Outside,

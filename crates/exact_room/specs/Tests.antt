@@ -1,7 +1,6 @@
 -- Whether exact values have room to be reckoned with in 64 bits, as tests. Assumes nothing: these are definitions.
 use Rattle.std.specs.Prelude.{Bool, ◌&&◌, ℕ, ◌+◌, ◌*◌, ◌^◌, ltb}
 use Rattle.language.specs.declared.Exact.{Exact}
-use Rattle.exact.specs.Room.{Space, Room}
 
 -- a number of 64 bits
 unfoldable pub fits : ℕ → Bool

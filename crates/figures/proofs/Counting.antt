@@ -1,13 +1,10 @@
 -- Digits: whether one more fits, and what a number of a line takes. Assumes nothing.
-use mathlib.Core.Path.{◌≡◌, refl, sym, ap, ◌∙◌, subst}
-use mathlib.Core.Bool.{Bool, true, false, ◌&&◌}
-use mathlib.Core.List.{List, [], ◌∷◌}
-use Prim.Native.Nat.{ℕ, zero, suc, ◌+◌, ◌-◌, ◌*◌, ◌/◌, ◌%◌, ◌≤◌, ◌<◌, min}
+use mathlib.Core.Path.{◌≡◌, refl, sym, ap, ◌∙◌}
+use mathlib.Core.Bool.{Bool, true, false}
+use Prim.Native.Nat.{ℕ, ◌+◌, ◌-◌, ◌*◌, ◌/◌, ◌≤◌, ◌<◌}
 use native.Mathlib.Omega.{arith}
-use borrow.Author.Tests.{lt-ltb, le-ltb, le-leb, lt-leb, leb-true, leb-false, eq-eqb, ne_eqb}
-use lib.Dec.{eqb, leb, ltb}
-use lib.ListN.{length, set}
-use lib.Seq.{set_out}
+use borrow.Author.Tests.{le-leb, lt-leb, leb-true, leb-false, eq-eqb, ne_eqb}
+use lib.Dec.{leb, ltb}
 use Rattle.language.specs.Words.{digit}
 use Rattle.figures.specs.declared.State.{State}
 use Rattle.figures.specs.States.{grown_of, most_of, takes_of, stays_of, line_takes, longer_of}

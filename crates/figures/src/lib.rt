@@ -11,7 +11,7 @@ pub use numbers::{longer, next_number, number, put, takes, takes_in_line, wide};
 
 // What is to come next. `Through`, `Wrong` and `Stopped` read no more: all cycles were run, the
 // input is not in form, or a row refused the texts at a place.
-#[derive(Drop)]
+#[derive(Clone, Copy)]
 pub enum Stage {
     ActorCount,
     Actor,
@@ -24,7 +24,7 @@ pub enum Stage {
     Stopped(u32, u32),
 }
 
-#[derive(Drop)]
+#[derive(Clone, Copy)]
 pub struct State {
     pub stage: Stage,
     // The number that is being read, and whether a digit of it was met.

@@ -5,7 +5,11 @@
 
 ghost use Rattle.std.specs.Prelude.{◌+◌, ◌*◌, ◌≤◌, ◌<◌, length};
 
-use libc::{STDIN_FILENO, STDOUT_FILENO};
+// The standard streams, as file descriptors.
+const STDIN: i32 = 0;
+
+const STDOUT: i32 = 1;
+
 
 // An actor's text has at most a word for each byte: four numbers each in the table, three on the tape.
 const BYTES: usize = language::Actor::BYTES as usize;
@@ -15,7 +19,7 @@ const NUMBERS: usize = tape::LENGTH;
 // What is kept of a count before its next digit: more than a text is long.
 const COUNTED: usize = 65536;
 
-#[derive(Drop)]
+#[derive(Clone, Copy)]
 struct Numeral {
     value: usize,
     next: usize,
@@ -26,8 +30,8 @@ fn wide(x: u32) -> u64 {
 }
 
 fn say(n: u32, end: &[u8]) {
-    io::print_decimal(STDOUT_FILENO, wide(n));
-    io::write_all(STDOUT_FILENO, end);
+    io::print_decimal(STDOUT, wide(n));
+    io::write_all(STDOUT, end);
 }
 
 // A number and the end of its line.
@@ -60,11 +64,11 @@ fn part_end(len: usize, from: usize, n: usize) -> usize
 fn say_constant(actor: &[u8], at: u32) {
     match sized_constants::constant(actor, at as usize) {
         sized_constants::Amount::Exact(x) => {
-            io::print_decimal(STDOUT_FILENO, x);
-            io::write_all(STDOUT_FILENO, b" ");
+            io::print_decimal(STDOUT, x);
+            io::write_all(STDOUT, b" ");
         }
         sized_constants::Amount::TooBig => {
-            io::write_all(STDOUT_FILENO, b"big ");
+            io::write_all(STDOUT, b"big ");
         }
     }
 }
@@ -83,7 +87,7 @@ fn show(actor: &[u8], table: &[u32], n: usize)
         }
         i += 1;
     }
-    io::write_all(STDOUT_FILENO, b"\n");
+    io::write_all(STDOUT, b"\n");
 }
 
 // The numbers of a tape.
@@ -95,7 +99,7 @@ fn show_tape(tape: &syntax::Tape, length: u32) {
         say(tape[i], b" ");
         i += 1;
     }
-    io::write_all(STDOUT_FILENO, b"\n");
+    io::write_all(STDOUT, b"\n");
 }
 
 fn fault_at(row: u32, place: u32) {
@@ -174,6 +178,6 @@ fn run(all: &[u8]) {
 
 fn main() {
     let mut buffer = io::large_buffer();
-    let n = io::read_full(STDIN_FILENO, &mut buffer);
+    let n = io::read_full(STDIN, &mut buffer);
     run(&buffer[..n]);
 }

@@ -17,7 +17,7 @@ use ranges::{beside, chosen, copies, range};
 use value::{binary, unary};
 
 // How many values wait, and whether a cell was written twice.
-#[derive(Drop)]
+#[derive(Clone, Copy)]
 pub struct Next {
     pub waits: usize,
     pub clash: bool,

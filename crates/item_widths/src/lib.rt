@@ -20,7 +20,7 @@ use plan::{
 use value::{binary_width, unary_width};
 
 // The width that an item leaves; none where it is not sound, or leaves no value.
-#[derive(Drop)]
+#[derive(Clone, Copy)]
 pub enum Width {
     None,
     Of(u32),

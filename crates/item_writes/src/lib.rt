@@ -10,21 +10,21 @@ use bindings::Lines;
 pub use nodes::{grow, growth, without};
 
 // How many items the tape has, and how many lines the bindings.
-#[derive(Drop)]
+#[derive(Clone, Copy)]
 pub struct Counts {
     pub items: usize,
     pub lines: Lines,
 }
 
 // The types that wait: how many, and how many nodes they have together.
-#[derive(Drop)]
+#[derive(Clone, Copy)]
 pub struct Waits {
     pub types: usize,
     pub nodes: usize,
 }
 
 // What an item does to the types that wait: a leaf begins one, a node of one operand ends the latest, one of two joins two.
-#[derive(Drop)]
+#[derive(Clone, Copy)]
 pub enum Grows {
     Nothing,
     Leaf(u32),
@@ -33,7 +33,7 @@ pub enum Grows {
 }
 
 // What an item writes.
-#[derive(Drop)]
+#[derive(Clone, Copy)]
 pub enum Written {
     Nothing,
     Six(u32, u32, u32, u32, u32, u32),
@@ -41,7 +41,7 @@ pub enum Written {
 
 // How far the walk is: the types that wait, the numbers written, from which item on the `let`s in force stand, the `val`s of
 // this rule, the size for the next memory.
-#[derive(Drop)]
+#[derive(Clone, Copy)]
 pub struct Far {
     pub waits: Waits,
     pub out: usize,

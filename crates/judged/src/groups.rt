@@ -11,7 +11,7 @@ use bits::matches;
 use plan::{group_in, groups_from, groups_in, masks_in, place};
 
 // The one rule of a group that matches, or why there is none.
-#[derive(Drop)]
+#[derive(Clone, Copy)]
 pub enum Match {
     Rule(u32),
     Refused(Answer),

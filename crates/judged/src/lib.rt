@@ -18,7 +18,7 @@ pub use tests::counts;
 use tests::fitting;
 
 // How a cycle ends: it is accepted, or why it is refused.
-#[derive(Drop)]
+#[derive(Clone, Copy)]
 pub enum Answer {
     Accepted,
     Unsound,
@@ -30,7 +30,7 @@ pub enum Answer {
 }
 
 // What is known before anything is run: the rules that fire act, or why the cycle is refused.
-#[derive(Drop)]
+#[derive(Clone, Copy)]
 pub enum Judged {
     Act,
     Refuse(Answer),

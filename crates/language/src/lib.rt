@@ -7,14 +7,14 @@ ghost use Rattle.std.specs.Prelude.{◌≡◌};
 ghost use Rattle.language.specs.Limits.{limits};
 
 // The two texts that a place may stand in.
-#[derive(Drop)]
+#[derive(Clone, Copy)]
 pub enum Text {
     Actor,
     Bindings,
 }
 
 // The operators that stand before their operand.
-#[derive(Drop)]
+#[derive(Clone, Copy)]
 pub enum Unary {
     Invert,
     Plus,
@@ -28,7 +28,7 @@ pub enum Unary {
 }
 
 // The operators that stand between two operands, the tightest first.
-#[derive(Drop)]
+#[derive(Clone, Copy)]
 pub enum Binary {
     Multiply,
     Divide,
@@ -54,7 +54,7 @@ pub enum Binary {
 }
 
 // The exact value of a type: `up` less `down`, and the logarithm of `a` less that of `b`.
-#[derive(Drop)]
+#[derive(Clone, Copy)]
 pub struct Exact {
     pub up: u64,
     pub down: u64,
@@ -63,7 +63,7 @@ pub struct Exact {
 }
 
 // A plan, by its form number, and how much an actor's plan may hold.
-#[derive(Drop)]
+#[derive(Clone, Copy)]
 pub struct Plan {
     pub form: u32,
 }
@@ -87,7 +87,7 @@ impl Plan {
 }
 
 // A type, by the number of its words.
-#[derive(Drop)]
+#[derive(Clone, Copy)]
 pub struct Type {
     pub words: u32,
 }
@@ -99,7 +99,7 @@ impl Type {
 }
 
 // An expression, by the number of its words.
-#[derive(Drop)]
+#[derive(Clone, Copy)]
 pub struct Expression {
     pub words: u32,
 }
@@ -113,7 +113,7 @@ impl Expression {
 }
 
 // The bindings text, by the number of its bytes.
-#[derive(Drop)]
+#[derive(Clone, Copy)]
 pub struct Bindings {
     pub bytes: u32,
 }
@@ -125,7 +125,7 @@ impl Bindings {
 }
 
 // The actor text, by the number of its bytes.
-#[derive(Drop)]
+#[derive(Clone, Copy)]
 pub struct Actor {
     pub bytes: u32,
 }
@@ -139,7 +139,7 @@ impl Actor {
 }
 
 // Every limit under the name by which specs/ cites it.
-#[derive(Drop)]
+#[derive(Clone, Copy)]
 pub struct Limits {
     pub actor: u32,
     pub name: u32,

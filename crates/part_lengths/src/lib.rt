@@ -12,7 +12,7 @@ use words::Place;
 
 // A type or an expression, gone back over so far: how many parts are still wanted, the words, and the place of the
 // first one once that is found.
-#[derive(Drop)]
+#[derive(Clone, Copy)]
 pub struct Part {
     pub wanted: usize,
     pub words: usize,
@@ -21,7 +21,7 @@ pub struct Part {
 }
 
 // A whole type or expression: the item that it starts at, its words, and the place of the first one.
-#[derive(Drop)]
+#[derive(Clone, Copy)]
 struct Length {
     at: usize,
     words: usize,

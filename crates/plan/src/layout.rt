@@ -161,7 +161,7 @@ pub fn absent_at(plan: &[u32], r: u32) -> u32
 }
 
 // Both masks of a rule, of rules that begin at a place.
-#[derive(Drop)]
+#[derive(Clone, Copy)]
 pub struct Masks {
     pub present: u32,
     pub absent: u32,
@@ -198,7 +198,7 @@ pub fn code_from(plan: &[u32]) -> usize
 }
 
 // A rule's code: where it begins, and its length.
-#[derive(Drop)]
+#[derive(Clone, Copy)]
 pub struct Stretch {
     pub from: usize,
     pub length: u32,

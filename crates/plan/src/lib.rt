@@ -31,7 +31,7 @@ pub const MASK_BITS: u32 = 32;
 pub const UNSET: u32 = 99;
 
 // One item of a rule's code, as docs/PLAN.md numbers them.
-#[derive(Drop)]
+#[derive(Clone, Copy)]
 pub enum Item {
     Const(u32, u32, u32),
     Port(u32),
@@ -51,7 +51,7 @@ pub enum Item {
 }
 
 // An item as numbers: its operation and three operands.
-#[derive(Drop)]
+#[derive(Clone, Copy)]
 struct Four {
     op: u32,
     a: u32,

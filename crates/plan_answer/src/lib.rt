@@ -13,7 +13,7 @@ use language::Text;
 use plan::place;
 
 // The plan's length, or a refusal with its number, its text and its place.
-#[derive(Drop)]
+#[derive(Clone, Copy)]
 pub enum Answer {
     Plan(u32),
     Refused(u32, Text, u32),

@@ -30,7 +30,7 @@ pub const IS_MEMORY: u32 = 4;
 pub const LOOSEST: u32 = 9;
 
 // Where a reader came to.
-#[derive(Drop)]
+#[derive(Clone, Copy)]
 pub enum Out {
     // The next word is at the first number, and the tape is as long as the second.
     At(usize, usize),

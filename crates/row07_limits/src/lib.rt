@@ -24,7 +24,7 @@ use words::Place;
 const TABLE: usize = 4 * language::Actor::BYTES as usize;
 
 // How many more there may be of each.
-#[derive(Drop)]
+#[derive(Clone, Copy)]
 struct Room {
     ports: u32,
     memories: u32,

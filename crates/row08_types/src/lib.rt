@@ -24,7 +24,7 @@ const LIMIT: u32 = language::Type::NUMBER;
 const TOGETHER: usize = 2;
 
 // What is known of the place of a type from the items after it.
-#[derive(Drop)]
+#[derive(Clone, Copy)]
 struct Around {
     // No `max` may stand there.
     low: bool,
@@ -39,7 +39,7 @@ struct Around {
 }
 
 // The logs before an item, from the last one back.
-#[derive(Drop)]
+#[derive(Clone, Copy)]
 struct Count {
     // So many types to pass over first.
     aside: usize,

@@ -17,7 +17,7 @@ use type_codes::want_code;
 use type_nodes::declared;
 
 // So many widths, or none that satisfy every type.
-#[derive(Drop)]
+#[derive(Clone, Copy)]
 pub enum Answer {
     Widths(usize),
     Nothing,

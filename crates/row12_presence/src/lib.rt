@@ -13,7 +13,7 @@ use words::Place;
 
 // Sets of ports, each a mask with bit k for port k: those that this rule lists with `.p.1`, the outputs that it has assigned,
 // those assigned so far in all groups, and those assigned in earlier groups.
-#[derive(Drop)]
+#[derive(Clone, Copy)]
 struct Met {
     required: u32,
     assigned: u32,

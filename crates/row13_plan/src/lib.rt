@@ -13,7 +13,7 @@ ghost use Rattle.row13_plan.specs.Made.{plan_in, answer_of, table_after};
 use section_items::{Section, put_item};
 use settled::{MEMORY, OR, RULE, SIGNED};
 
-#[derive(Drop)]
+#[derive(Clone, Copy)]
 pub enum Answer {
     // The plan has so many numbers.
     Plan(u32),

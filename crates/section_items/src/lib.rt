@@ -10,7 +10,7 @@ ghost use Rattle.section_items.specs.Sections.{items_from, item_at, width_of, nu
 use settled::{OR, PRESENT, RULE, RULED};
 
 // The sections that items give numbers to.
-#[derive(Drop)]
+#[derive(Clone, Copy)]
 pub enum Section {
     Ports,
     Memories,

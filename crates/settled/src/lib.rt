@@ -15,7 +15,7 @@ pub use numbers::{
 pub const ITEMS: usize = language::Actor::BYTES as usize;
 
 // Every operation under the name by which specs/ cites it.
-#[derive(Drop)]
+#[derive(Clone, Copy)]
 pub struct Operations {
     pub bits: u32,
     pub big: u32,

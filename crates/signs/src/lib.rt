@@ -11,7 +11,7 @@ ghost use Rattle.signs.specs.Signs.{sign_of, sign_kind, sign_rows};
 ghost use Rattle.signs.specs.Tells.{Tells};
 
 // What stands first at a place.
-#[derive(Drop)]
+#[derive(Clone, Copy)]
 pub enum Item {
     Over,
     // A separator of so many bytes.

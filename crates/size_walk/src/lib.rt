@@ -17,7 +17,7 @@ use words::Place;
 pub const FAULTY: u32 = 99;
 
 // What an item adds to the code: nothing, or an item of the plan's.
-#[derive(Drop)]
+#[derive(Clone, Copy)]
 pub enum Emits {
     Nothing,
     Adds(Item),
@@ -25,7 +25,7 @@ pub enum Emits {
 
 // What an item does: how many expressions it takes, the width and first byte of the one that it leaves, if it leaves one, its
 // fault, and what it adds to the code.
-#[derive(Drop)]
+#[derive(Clone, Copy)]
 pub struct Effect {
     pub takes: usize,
     pub leaves: bool,
@@ -37,7 +37,7 @@ pub struct Effect {
 
 // What an item goes by: the widths and first bytes of the latest three expressions that wait, the latest first; the width
 // before a constant's digits and its place; how many cases stand around; the width that a slot holds.
-#[derive(Drop)]
+#[derive(Clone, Copy)]
 pub struct Seen {
     pub x: u32,
     pub y: u32,
@@ -53,7 +53,7 @@ pub struct Seen {
 
 // How far the walk is: expressions that wait, numbers of code, the earliest fault, a constant's width and its place, cases
 // around, rules ended, and the code before this rule.
-#[derive(Drop)]
+#[derive(Clone, Copy)]
 pub struct Far {
     pub waits: usize,
     pub out: usize,

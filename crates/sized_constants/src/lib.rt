@@ -8,7 +8,7 @@ ghost use Rattle.language.specs.Words.{digit_of, digit_in, base_of, span as span
 ghost use Rattle.sized_constants.specs.Constant.{amount_of, constant_at, most_base};
 
 // The value of a sized constant's digits.
-#[derive(Drop)]
+#[derive(Clone, Copy)]
 pub enum Amount {
     Exact(u64),
     // 64 bits do not hold it.

@@ -12,14 +12,14 @@ use language::Expression;
 use plan::{Item, SLOTS, UNSET, WAITS, fetch, length_at, memory_width, place, present_at, takes};
 
 // After an item: how many widths wait, and the mask of the outputs assigned; or the check is broken.
-#[derive(Drop)]
+#[derive(Clone, Copy)]
 pub enum Next {
     Broken,
     After(usize, u32),
 }
 
 // The outputs that sound code assigns, as a mask.
-#[derive(Drop)]
+#[derive(Clone, Copy)]
 pub enum Assigned {
     Unsound,
     Mask(u32),

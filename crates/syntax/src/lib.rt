@@ -9,7 +9,7 @@ pub use readers::Tape;
 pub use reading::read;
 
 // What reading a text comes to.
-#[derive(Drop)]
+#[derive(Clone, Copy)]
 pub enum Said {
     // The tape holds the actor, in so many numbers.
     Tape(u32),

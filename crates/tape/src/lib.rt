@@ -25,7 +25,7 @@ pub const ITEMS: usize = language::Actor::BYTES as usize;
 pub const LENGTH: usize = 3 * ITEMS;
 
 // Every operation under the name by which specs/ cites it.
-#[derive(Drop)]
+#[derive(Clone, Copy)]
 pub struct Operations {
     pub number: u32,
     pub environment: u32,
@@ -77,7 +77,7 @@ pub struct Operations {
 }
 
 // What an item is in the type that it stands in.
-#[derive(Drop)]
+#[derive(Clone, Copy)]
 pub enum Node {
     Number,
     Name,
@@ -96,7 +96,7 @@ pub enum Node {
 }
 
 // What an item names.
-#[derive(Drop)]
+#[derive(Clone, Copy)]
 pub enum Class {
     Signed,
     // A port; an input; an output; a port or a memory.

@@ -8,8 +8,11 @@ mod texts;
 
 use figures::{begin, emptied, goes_on};
 use input_bytes::ended;
-use libc::{STDIN_FILENO, STDOUT_FILENO};
+use std::io::Read;
 use steps::feed;
+
+// The standard output, as a file descriptor.
+const STDOUT: i32 = 1;
 
 // One byte more than a text may have: so that one over its limit is told from one at it.
 const ACTOR: usize = language::Actor::BYTES as usize + 1;
@@ -28,7 +31,7 @@ const PART: usize = 64;
 
 const OUT: usize = 32768;
 
-fn main() {
+fn main(rt: HostRuntime) {
     let mut actor = [0u8; ACTOR];
     let mut bindings = [0u8; BINDINGS];
     let mut plan = [0u32; ROOM];
@@ -37,11 +40,11 @@ fn main() {
     let mut memory = [0u64; CELLS];
     let mut out = [0u8; OUT];
     let mut input = [0u8; PART];
+    let mut stdin = rt.stdin();
     let mut s = begin();
     let mut turns = u64::MAX;
     while turns > 0 && goes_on(s) {
-        let got = libc::read(STDIN_FILENO, &mut input);
-        let n = io::count(got, &input);
+        let n = stdin.read(&mut input).unwrap_or(0);
         if n == 0 {
             break;
         }
@@ -57,10 +60,10 @@ fn main() {
             &mut out,
         );
         let k = s.at;
-        io::write_all(STDOUT_FILENO, &out[..k]);
+        io::write_all(STDOUT, &out[..k]);
         s = emptied(s);
         turns -= 1;
     }
     let end = ended(s, &plan, &memory, &mut out);
-    io::write_all(STDOUT_FILENO, &out[..end]);
+    io::write_all(STDOUT, &out[..end]);
 }

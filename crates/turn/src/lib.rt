@@ -20,7 +20,7 @@ const GROUPS: usize = language::Plan::GROUPS as usize;
 const PORTS: usize = language::Plan::PORTS as usize;
 
 // The answer of a cycle as 01's number, and the number of present ports, 0 where it is refused.
-#[derive(Drop)]
+#[derive(Clone, Copy)]
 pub struct Done {
     pub answer: u32,
     pub present: u32,

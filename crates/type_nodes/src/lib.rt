@@ -19,7 +19,7 @@ use tape::{
 };
 
 // What an item is to the declared types.
-#[derive(Drop)]
+#[derive(Clone, Copy)]
 pub enum Role {
     // A node of a type; what stands in a declaration and is no node.
     Node,
@@ -33,14 +33,14 @@ pub enum Role {
 }
 
 // Whose type is sought: the port whose name stands at a place, or a memory by its index.
-#[derive(Drop)]
+#[derive(Clone, Copy)]
 pub enum Goal {
     Port(usize),
     Memory(usize),
 }
 
 // The ports of the signature, and the memories.
-#[derive(Drop)]
+#[derive(Clone, Copy)]
 pub struct Counts {
     pub ports: usize,
     pub memories: usize,

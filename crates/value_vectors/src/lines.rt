@@ -1,13 +1,13 @@
 // The vectors as text: five numbers on a line, each ended by one byte.
 ghost use Rattle.std.specs.Prelude.{◌≡◌, ◌+◌, ◌≤◌, min, length};
 
-#[derive(Drop)]
+#[derive(Clone, Copy)]
 pub struct Read {
     pub value: u64,
     pub next: usize,
 }
 
-#[derive(Drop)]
+#[derive(Clone, Copy)]
 pub struct Asked {
     pub what: u64,
     pub m: u32,

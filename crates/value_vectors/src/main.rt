@@ -8,11 +8,15 @@ mod lines;
 ghost use Rattle.std.specs.Prelude.{◌≡◌, ◌^◌, ltb};
 
 use language::{Binary, Unary};
-use libc::{STDIN_FILENO, STDOUT_FILENO};
 use lines::{line, width};
 
+// The standard streams, as file descriptors.
+const STDIN: i32 = 0;
+
+const STDOUT: i32 = 1;
+
 // One call of `value` for each operator, where what it requires is met.
-#[derive(Drop)]
+#[derive(Clone, Copy)]
 pub enum Tried {
     Refused,
     Gives(u64),
@@ -185,8 +189,8 @@ fn answer(what: u64, m: u32, n: u32, a: u64, b: u64) -> Tried {
 
 fn print(t: Tried) -> bool {
     match t {
-        Tried::Refused => io::write_all(STDOUT_FILENO, b"refused"),
-        Tried::Gives(x) => io::print_decimal(STDOUT_FILENO, x),
+        Tried::Refused => io::write_all(STDOUT, b"refused"),
+        Tried::Gives(x) => io::print_decimal(STDOUT, x),
     }
 }
 
@@ -196,13 +200,13 @@ fn run(s: &[u8]) {
     while at < s.len() {
         let v = line(s, at);
         print(answer(v.what, v.m, v.n, v.a, v.b));
-        io::write_all(STDOUT_FILENO, b"\n");
+        io::write_all(STDOUT, b"\n");
         at = v.next;
     }
 }
 
 fn main() {
     let mut buffer = io::large_buffer();
-    let n = io::read_full(STDIN_FILENO, &mut buffer);
+    let n = io::read_full(STDIN, &mut buffer);
     run(&buffer[..n]);
 }

@@ -12,7 +12,7 @@ ghost use Rattle.words.specs.Found.{found_of, table_after, left_in, left_kind, e
 use signs::{Item, kinds};
 
 // What reading the whole text gives.
-#[derive(Drop)]
+#[derive(Clone, Copy)]
 pub enum Found {
     // So many words.
     Words(u32),
@@ -23,7 +23,7 @@ pub enum Found {
 }
 
 // A place, where there is one.
-#[derive(Drop)]
+#[derive(Clone, Copy)]
 pub enum Place {
     At(u32),
     Nowhere,
