@@ -16,7 +16,7 @@ abbrev leaving : List ℕ
 leaving = 0 ∷ 1 ∷ 2 ∷ 3 ∷ 4 ∷ 5 ∷ 6 ∷ 7 ∷ 8 ∷ 9 ∷ 10 ∷ 14 ∷ []
 
 -- all but Keep, Assign and Write
-pub leaves : (i : Item) → OneOf leaving (tag_of item.the_type_law i) → acts_of i ≡ false
+pub leaves : (i : Item) → OneOf leaving (tag_of item.the_type i) → acts_of i ≡ false
 leaves (Const w lo hi) h = refl
 leaves (Port i) h = refl
 leaves (Let k) h = refl
