@@ -7,9 +7,7 @@ use native.Mathlib.Omega.{arith}
 use lib.Dec.{eqb, ltb}
 use lib.Pow.{pow_pos}
 use borrow.Author.Tests.{ltb-true, ltb-false, eq-eqb, ne_eqb}
-use borrow.Author.Rules.{rules}
-use Rattle.value_vectors.proofs.within.Statement.{statement}
-use Rattle.value_vectors.proofs.within.Tie as tie
+use Rattle.value_vectors.proofs.within.Goals as goal
 
 -- a number is its low w bits exactly where it has no others
 same_low : (w a : ℕ) (t : Bool) → ltb a (2 ^ w) ≡ t → eqb (a % 2 ^ w) a ≡ t
@@ -18,11 +16,5 @@ same_low w a false e =
     let h : a % 2 ^ w < 2 ^ w = mod-lt a (pow_pos w) in
     ne_eqb (a % 2 ^ w) a (λ s. omega (arith, ltb-false a (2 ^ w) e))
 
-low-requires : tie.Need-low-requires
-low-requires c κs = search rules
-
-returns : tie.Need-returns
-returns c = ap (λ (x : ℕ). eqb x c.before.args.a) c.low.ensures ∙ same_low c.before.args.w c.before.args.a (ltb c.before.args.a (2 ^ c.before.args.w)) refl
-
-pub within-spec : {M : Type 1} → statement M
-within-spec = tie.close (tie.spec low-requires returns)
+pub returns : goal.returns
+returns c = ap (λ (x : ℕ). eqb x c.args.a) c.low.ensures ∙ same_low c.args.w c.args.a (ltb c.args.a (2 ^ c.args.w)) refl
