@@ -61,7 +61,7 @@ same_widths a m n o x y e = go binaries a e
 abbrev not_before : List ℕ
 not_before = 0 ∷ 1 ∷ 2 ∷ 3 ∷ 4 ∷ 5 ∷ 6 ∷ 8 ∷ 9 ∷ 10 ∷ 11 ∷ 12 ∷ 13 ∷ 14 ∷ []
 
-pub no_before : (i : Item) → OneOf not_before (tag_of item.the_type_law i) → 0 ≡ before_width i
+pub no_before : (i : Item) → OneOf not_before (tag_of item.the_type i) → 0 ≡ before_width i
 unfolding before_width
 no_before (Const w lo hi) h = refl
 no_before (Port i) h = refl
@@ -82,7 +82,7 @@ no_before Bad h = refl
 abbrev not_between : List ℕ
 not_between = 0 ∷ 1 ∷ 2 ∷ 3 ∷ 4 ∷ 5 ∷ 6 ∷ 7 ∷ 9 ∷ 10 ∷ 11 ∷ 12 ∷ 13 ∷ 14 ∷ []
 
-pub no_between : (i : Item) → OneOf not_between (tag_of item.the_type_law i) → 0 ≡ between_width i
+pub no_between : (i : Item) → OneOf not_between (tag_of item.the_type i) → 0 ≡ between_width i
 unfolding between_width
 no_between (Const w lo hi) h = refl
 no_between (Port i) h = refl
@@ -103,7 +103,7 @@ no_between Bad h = refl
 abbrev not_keep : List ℕ
 not_keep = 0 ∷ 1 ∷ 2 ∷ 3 ∷ 4 ∷ 5 ∷ 6 ∷ 7 ∷ 8 ∷ 9 ∷ 10 ∷ 12 ∷ 13 ∷ 14 ∷ []
 
-pub no_keep : (i : Item) → OneOf not_keep (tag_of item.the_type_law i) → 0 ≡ kept_in i
+pub no_keep : (i : Item) → OneOf not_keep (tag_of item.the_type i) → 0 ≡ kept_in i
 unfolding kept_in
 no_keep (Const w lo hi) h = refl
 no_keep (Port i) h = refl
