@@ -1,45 +1,38 @@
 -- `row13_plan::made` meets its contract: the sections stand one after the other, and their room was tested. Assumes nothing.
 use native.Mathlib.Omega.{arith}
-use Prim.Native.Nat.{◌+◌, ◌*◌}
-use lib.ListN.{take}
-use Rattle.section_items.specs.Items.{items_of}
+use Prim.Native.Nat.{ℕ, ◌+◌, ◌*◌, ◌≤◌}
+use lib.ListN.{length, take}
+use mathlib.Core.Path.{◌≡◌}
+use mathlib.Core.List.{List}
+use Rattle.settled.specs.Form.{RULE, OR, MEMORY, SIGNED}
+use Rattle.section_items.specs.Items.{Item, counted, items_of}
 use Rattle.row13_plan.proofs.Whole.{Asked, plan_long, short_answer, short_table, room_ports, room_memories, room_groups, room_rules, room_code, whole_long, whole_table, whole_answer}
 use Rattle.row13_plan.proofs.made.Goals as goal
 
 -- the plan has as many numbers as were summed
-asked : (c : goal.After-count-rules)
-    → let args = c.args in
-    Asked (items_of (take args.n args.items.now)) args.code.now args.lengths.now args.long args.plan-1.now
-    (6 + c.count-ports.result + 2 * c.count-memories.result + c.count-groups.result + 3 * c.count-rules.result + args.long)
-asked c =
-    let pre = c.requires in
-    let args = c.args in
-    let count = c.count-ports in
-    record {
-      there = pre.long_in_bounds.0;
-      size = plan_long _ args.code.now args.lengths.now _ pre.long_in_bounds.0 count.ensures.0
-          c.count-memories.ensures.0 c.count-groups.ensures.0 c.count-rules.ensures.0;
-    }
+asked : (items : List Item) (code lengths t : List ℕ) (long : ℕ) {ports memories groups rules : ℕ} → long ≤ length code → ports ≡ counted SIGNED items → memories ≡ counted MEMORY items
+    → groups ≡ counted OR items → rules ≡ counted RULE items → Asked items code lengths long t (6 + ports + 2 * memories + groups + 3 * rules + long)
+asked items code lengths t long h p m g r = record { there = h; size = plan_long items code lengths long h p m g r }
 
 pub returns-then-plan-whole : goal.returns-then-plan-whole
-returns-then-plan-whole c = record { answer = short_answer (asked c) c.if-plan-whole.true; table = short_table (asked c) c.if-plan-whole.true }
+returns-then-plan-whole c = record { answer = short_answer (asked (items_of (take c.args.n c.args.items.now)) c.args.code.now c.args.lengths.now c.args.plan.now c.args.long c.requires.long_in_bounds.0 c.count-ports.ensures.0 c.count-memories.ensures.0 c.count-groups.ensures.0 c.count-rules.ensures.0) c.if-plan-whole.true; table = short_table (asked (items_of (take c.args.n c.args.items.now)) c.args.code.now c.args.lengths.now c.args.plan.now c.args.long c.requires.long_in_bounds.0 c.count-ports.ensures.0 c.count-memories.ensures.0 c.count-groups.ensures.0 c.count-rules.ensures.0) c.if-plan-whole.true }
 
 pub put_section-a-requires : goal.put_section-a-requires
-put_section-a-requires c = (c.requires.few, room_ports (asked c) c.if-plan-whole.false)
+put_section-a-requires c = record { few = c.requires.few; n_in_bounds = room_ports (asked (items_of (take c.args.n c.args.items.now)) c.args.code.now c.args.lengths.now c.args.plan.now c.args.long c.requires.long_in_bounds.0 c.count-ports.ensures.0 c.count-memories.ensures.0 c.count-groups.ensures.0 c.count-rules.ensures.0) c.if-plan-whole.false }
 
 pub put_section-b-requires : goal.put_section-b-requires
-put_section-b-requires c = (c.requires.few, room_memories (asked c) c.if-plan-whole.false c.put_section-a.ensures)
+put_section-b-requires c = record { few = c.requires.few; n_in_bounds = room_memories (asked (items_of (take c.args.n c.args.items.now)) c.args.code.now c.args.lengths.now c.args.plan.now c.args.long c.requires.long_in_bounds.0 c.count-ports.ensures.0 c.count-memories.ensures.0 c.count-groups.ensures.0 c.count-rules.ensures.0) c.if-plan-whole.false c.put_section-a.ensures }
 
 pub put_section-c-requires : goal.put_section-c-requires
 put_section-c-requires c =
     let pre = c.requires in
     let if1 = c.if-plan-whole in
     let put-section = c.put_section-a in
-    let put-section2 = c.put_section-b in (
-      pre.few,
-      room_groups (asked c) if1.false put-section.ensures
-          put-section2.ensures,
-    )
+    let put-section2 = c.put_section-b in record {
+      few = pre.few;
+      n_in_bounds = room_groups (asked (items_of (take c.args.n c.args.items.now)) c.args.code.now c.args.lengths.now c.args.plan.now c.args.long c.requires.long_in_bounds.0 c.count-ports.ensures.0 c.count-memories.ensures.0 c.count-groups.ensures.0 c.count-rules.ensures.0) if1.false put-section.ensures
+          put-section2.ensures;
+    }
 
 pub put_section-d-requires : goal.put_section-d-requires
 put_section-d-requires c =
@@ -47,11 +40,11 @@ put_section-d-requires c =
     let if1 = c.if-plan-whole in
     let put-section = c.put_section-a in
     let put-section2 = c.put_section-b in
-    let put-section3 = c.put_section-c in (
-      pre.few,
-      room_rules (asked c)
-          if1.false put-section.ensures put-section2.ensures put-section3.ensures,
-    )
+    let put-section3 = c.put_section-c in record {
+      few = pre.few;
+      n_in_bounds = room_rules (asked (items_of (take c.args.n c.args.items.now)) c.args.code.now c.args.lengths.now c.args.plan.now c.args.long c.requires.long_in_bounds.0 c.count-ports.ensures.0 c.count-memories.ensures.0 c.count-groups.ensures.0 c.count-rules.ensures.0)
+          if1.false put-section.ensures put-section2.ensures put-section3.ensures;
+    }
 
 pub put_code-requires : goal.put_code-requires
 put_code-requires c =
@@ -64,8 +57,7 @@ put_code-requires c =
       pre.long_in_bounds.0,
       pre.long_in_bounds.1,
       room_code
-          (asked
-          c)
+          (asked (items_of (take c.args.n c.args.items.now)) c.args.code.now c.args.lengths.now c.args.plan.now c.args.long c.requires.long_in_bounds.0 c.count-ports.ensures.0 c.count-memories.ensures.0 c.count-groups.ensures.0 c.count-rules.ensures.0)
           if1.false put-section.ensures put-section2.ensures put-section3.ensures put-section4.ensures,
     )
 
@@ -86,8 +78,7 @@ shape_of-plan c =
     let put-section3 = c.put_section-c in
     let put-section4 = c.put_section-d in
     whole_long
-    (asked
-    c)
+    (asked (items_of (take c.args.n c.args.items.now)) c.args.code.now c.args.lengths.now c.args.plan.now c.args.long c.requires.long_in_bounds.0 c.count-ports.ensures.0 c.count-memories.ensures.0 c.count-groups.ensures.0 c.count-rules.ensures.0)
     if1.false put-section.ensures put-section2.ensures put-section3.ensures put-section4.ensures c.put_code.ensures
 
 pub returns : goal.returns
@@ -96,13 +87,11 @@ returns c =
     let put-section = c.put_section-a in
     let put-section2 = c.put_section-b in
     let put-section3 = c.put_section-c in
-    let put-section4 = c.put_section-d in (
-      whole_answer
-          (asked
-          c)
-          if1.false,
-      whole_table
-          (asked
-          c)
-          if1.false put-section.ensures put-section2.ensures put-section3.ensures put-section4.ensures c.put_code.ensures,
-    )
+    let put-section4 = c.put_section-d in record {
+      answer = whole_answer
+          (asked (items_of (take c.args.n c.args.items.now)) c.args.code.now c.args.lengths.now c.args.plan.now c.args.long c.requires.long_in_bounds.0 c.count-ports.ensures.0 c.count-memories.ensures.0 c.count-groups.ensures.0 c.count-rules.ensures.0)
+          if1.false;
+      table = whole_table
+          (asked (items_of (take c.args.n c.args.items.now)) c.args.code.now c.args.lengths.now c.args.plan.now c.args.long c.requires.long_in_bounds.0 c.count-ports.ensures.0 c.count-memories.ensures.0 c.count-groups.ensures.0 c.count-rules.ensures.0)
+          if1.false put-section.ensures put-section2.ensures put-section3.ensures put-section4.ensures c.put_code.ensures;
+    }

@@ -1,6 +1,6 @@
 -- `row13_plan::put_code` meets its contract: the code that is left, put after what stands, makes the whole. Assumes nothing.
 use native.Mathlib.Omega.{arith}
-use Prim.Native.Nat.{◌-◌, ◌+◌}
+use Prim.Native.Nat.{◌+◌}
 use mathlib.Core.Path.{refl, sym, ◌∙◌}
 use native.Mathlib.Numerals.{add-one}
 use lib.ListN.{get_or, length-set}
