@@ -86,7 +86,7 @@ returns-in-34 c = rw c.in-34.is c.write.ensures
 
 pub returns-in-36 : goal.returns-in-36
 unfolding effect_of
-returns-in-36 c = rw c.in-36.is c.type-inv.ensures
+returns-in-36 c = rw c.in-36.is c.typed.ensures
 
 pub returns-in-37 : goal.returns-in-37
 unfolding effect_of
@@ -96,7 +96,7 @@ pub returns-in_default : goal.returns-in_default
 unfolding effect_of
 returns-in_default c =
     let args = c.args in
-    let match = c.in_default in
+    let match = c.in_default.in_default-own in
     c.ends.ensures ∙ sym
     (simp (
       effect_of,

@@ -10,4 +10,4 @@ returns-in-Between c = let s = same_widths _ _ _ _ _ _ (sym c.binary_item.ensure
 
 pub returns-in_default : goal.returns-in_default
 unfolding binary_wide
-returns-in_default c = rw (← c.binary_item.ensures) (no_between _ c.in_default.keys2)
+returns-in_default c = rw (← c.binary_item.ensures) (no_between _ c.in_default.not-Between)

@@ -9,4 +9,4 @@ returns-in-Before c = rw (← c.unary_item.ensures, c.in-Before.is) c.unary_widt
 
 pub returns-in_default : goal.returns-in_default
 unfolding unary_wide
-returns-in_default c = rw (← c.unary_item.ensures) (no_before _ c.in_default.keys2)
+returns-in_default c = rw (← c.unary_item.ensures) (no_before _ c.in_default.not-Before)

@@ -20,9 +20,8 @@ returns-in-Nothing c = rw c.in-Nothing.is (held_none _ _ _)
 pub returns-then-op-q : goal.returns-then-op-q
 returns-then-op-q c =
     let args = c.args in
-    let emits = c.emits-1 in
     let place = c.place-q in
-    rw (emits.given.1, place.ensures.0, c.kept.ensures)
+    rw (c.in-Adds.is, place.ensures.0, c.kept.ensures)
     (held_yes _ _ _ _ (and_left (eqb args.op 37 || eqb args.op 36) (ltb place.result (length args.slots.now)) c.if-op-q.true))
 
 pub returns-else-op-q : goal.returns-else-op-q

@@ -9,4 +9,4 @@ unfolding kept_in
 returns-in-Keep c = rw c.in-Keep.is refl
 
 pub returns-in_default : goal.returns-in_default
-returns-in_default c = no_keep _ c.in_default.keys2
+returns-in_default c = no_keep _ c.in_default.not-Keep

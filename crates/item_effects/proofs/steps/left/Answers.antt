@@ -10,23 +10,19 @@ returns-then-e c =
     let args = c.args in
     let pre = c.requires in
     let without = c.without-q in
-    rw c.if-e.true (
-      omega (arith, without.ensures),
-      (
-        top_over args.widths.now args.n args.e.takes without.result args.e.width without.ensures pre.0,
-        top_over args.starts.now args.n args.e.takes without.result args.e.start without.ensures pre.1,
-      ),
-    )
+    rw c.if-e.true (record {
+      few = omega (arith, without.ensures);
+      widths = top_over args.widths.now args.n args.e.takes without.result args.e.width without.ensures pre.0;
+      starts = top_over args.starts.now args.n args.e.takes without.result args.e.start without.ensures pre.1;
+    })
 
 pub returns : goal.returns
 unfolding one_if
 returns c =
     let args = c.args in
     let without = c.without-q in
-    rw c.if-e.false (
-      omega (arith, without.ensures),
-      (
-        top_less args.widths.now args.n args.e.takes without.result without.ensures,
-        top_less args.starts.now args.n args.e.takes without.result without.ensures,
-      ),
-    )
+    rw c.if-e.false (record {
+      few = omega (arith, without.ensures);
+      widths = top_less args.widths.now args.n args.e.takes without.result without.ensures;
+      starts = top_less args.starts.now args.n args.e.takes without.result without.ensures;
+    })

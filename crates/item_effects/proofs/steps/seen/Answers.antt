@@ -9,9 +9,9 @@ returns c =
     let last = c.last in
     let last2 = c.last-2 in
     let last3 = c.last-3 in
-    let last4 = c.last-4 in (
-      refl,
-      λ code lengths s h. rw (
+    let last4 = c.last-4 in record {
+      cases = refl;
+      state = λ code lengths s h. rw (
         last.ensures,
         last2.ensures,
         last3.ensures,
@@ -25,5 +25,5 @@ returns c =
         h.breadth,
         h.start,
         h.cases,
-      ),
-    )
+      );
+    }
