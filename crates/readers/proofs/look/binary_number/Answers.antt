@@ -16,8 +16,7 @@ use Rattle.signs.specs.Kinds.{spelled_words}
 use Rattle.readers.proofs.Table.{at}
 use Rattle.readers.proofs.Spells.{fixed_past}
 use borrow.Author.Rules.{rules}
-use Rattle.readers.proofs.look.binary_number.Statement.{statement}
-use Rattle.readers.proofs.look.binary_number.Tie as tie
+use Rattle.readers.proofs.look.binary_number.Goals as goal
 
 numbers : List ℕ
 unfolding bytes
@@ -35,27 +34,18 @@ right k x = eqb (x - 97) (binary_of k)
 small_fits : (x : ℕ) → T (leb x 122) → Fits w32 (x - 97)
 small_fits x t = let h = leb→le x 122 t in omega (arith, h)
 
-wide-requires : tie.Need-wide-requires
-wide-requires c κs = search rules
-
-array-read-result : tie.Need-array-read-result
-array-read-result c = search rules
-
-sub-result : tie.Need-overflow-sub-result
+pub overflow_sub-result : goal.overflow_sub-result
 unfolding numbers figure
-sub-result c = leb→le 97 (get_or numbers c.before.wide.result 0) (at figure numbers tt c.before.wide.result c.if1.true)
+overflow_sub-result c = leb→le 97 (get_or numbers c.wide-i.result 0) (at figure numbers tt c.wide-i.result c.if-i-lt-KINDS.true)
 
-cast-result : tie.Need-overflow-cast-result
+pub overflow_cast-result : goal.overflow_cast-result
 unfolding numbers small
-cast-result c = small_fits (get_or numbers c.before.wide.result 0) (at small numbers tt c.before.wide.result c.if1.true)
+overflow_cast-result c = small_fits (get_or numbers c.wide-i.result 0) (at small numbers tt c.wide-i.result c.if-i-lt-KINDS.true)
 
-returns : tie.Need-returns
+pub returns-then-i-lt-KINDS : goal.returns-then-i-lt-KINDS
 unfolding numbers right binary_of binary_in operator_in operators fixed_of spelled_words
-returns c = eqb→eq (get_or numbers c.before.wide.result 0 - 97) (binary_of c.before.wide.result) (at right numbers tt c.before.wide.result c.if1.true) ∙ ap binary_of c.before.wide.ensures
+returns-then-i-lt-KINDS c = eqb→eq (get_or numbers c.wide-i.result 0 - 97) (binary_of c.wide-i.result) (at right numbers tt c.wide-i.result c.if-i-lt-KINDS.true) ∙ ap binary_of c.wide-i.ensures
 
-returns-2 : tie.Need-returns-2
+pub returns-else-i-lt-KINDS : goal.returns-else-i-lt-KINDS
 unfolding binary_of binary_in operator_in operators
-returns-2 c = sym (ap (λ (s : String). binary_in (operator_in operators s)) (fixed_past c.before.before.args.k (search rules)))
-
-pub binary-number-spec : {M : Type 1} → statement M
-binary-number-spec = tie.close (tie.spec wide-requires array-read-result sub-result cast-result returns returns-2)
+returns-else-i-lt-KINDS c = sym (ap (λ (s : String). binary_in (operator_in operators s)) (fixed_past c.args.k (search rules)))

@@ -16,8 +16,7 @@ use Rattle.signs.specs.Kinds.{spelled_words}
 use Rattle.readers.proofs.Table.{at}
 use Rattle.readers.proofs.Spells.{fixed_past}
 use borrow.Author.Rules.{rules}
-use Rattle.readers.proofs.look.unary_number.Statement.{statement}
-use Rattle.readers.proofs.look.unary_number.Tie as tie
+use Rattle.readers.proofs.look.unary_number.Goals as goal
 
 numbers : List ℕ
 unfolding bytes
@@ -35,27 +34,18 @@ right k x = eqb (x - 48) (unary_of k)
 small_fits : (x : ℕ) → T (leb x 57) → Fits w32 (x - 48)
 small_fits x t = let h = leb→le x 57 t in omega (arith, h)
 
-wide-requires : tie.Need-wide-requires
-wide-requires c κs = search rules
-
-array-read-result : tie.Need-array-read-result
-array-read-result c = search rules
-
-sub-result : tie.Need-overflow-sub-result
+pub overflow_sub-result : goal.overflow_sub-result
 unfolding numbers figure
-sub-result c = leb→le 48 (get_or numbers c.before.wide.result 0) (at figure numbers tt c.before.wide.result c.if1.true)
+overflow_sub-result c = leb→le 48 (get_or numbers c.wide-i.result 0) (at figure numbers tt c.wide-i.result c.if-i-lt-KINDS.true)
 
-cast-result : tie.Need-overflow-cast-result
+pub overflow_cast-result : goal.overflow_cast-result
 unfolding numbers small
-cast-result c = small_fits (get_or numbers c.before.wide.result 0) (at small numbers tt c.before.wide.result c.if1.true)
+overflow_cast-result c = small_fits (get_or numbers c.wide-i.result 0) (at small numbers tt c.wide-i.result c.if-i-lt-KINDS.true)
 
-returns : tie.Need-returns
+pub returns-then-i-lt-KINDS : goal.returns-then-i-lt-KINDS
 unfolding numbers right unary_of unary_in prefix_in prefixes fixed_of spelled_words
-returns c = eqb→eq (get_or numbers c.before.wide.result 0 - 48) (unary_of c.before.wide.result) (at right numbers tt c.before.wide.result c.if1.true) ∙ ap unary_of c.before.wide.ensures
+returns-then-i-lt-KINDS c = eqb→eq (get_or numbers c.wide-i.result 0 - 48) (unary_of c.wide-i.result) (at right numbers tt c.wide-i.result c.if-i-lt-KINDS.true) ∙ ap unary_of c.wide-i.ensures
 
-returns-2 : tie.Need-returns-2
+pub returns-else-i-lt-KINDS : goal.returns-else-i-lt-KINDS
 unfolding unary_of unary_in prefix_in prefixes
-returns-2 c = sym (ap (λ (s : String). unary_in (prefix_in prefixes s)) (fixed_past c.before.before.args.k (search rules)))
-
-pub unary-number-spec : {M : Type 1} → statement M
-unary-number-spec = tie.close (tie.spec wide-requires array-read-result sub-result cast-result returns returns-2)
+returns-else-i-lt-KINDS c = sym (ap (λ (s : String). unary_in (prefix_in prefixes s)) (fixed_past c.args.k (search rules)))

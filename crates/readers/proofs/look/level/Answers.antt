@@ -16,8 +16,7 @@ use Rattle.signs.specs.Kinds.{spelled_words}
 use Rattle.readers.proofs.Table.{at}
 use Rattle.readers.proofs.Spells.{fixed_past}
 use borrow.Author.Rules.{rules}
-use Rattle.readers.proofs.look.level.Statement.{statement}
-use Rattle.readers.proofs.look.level.Tie as tie
+use Rattle.readers.proofs.look.level.Goals as goal
 
 levels : List ℕ
 unfolding bytes
@@ -41,30 +40,21 @@ small_fits x t = let h = leb→le x 57 t in omega (arith, h)
 ap_le : (i k x : ℕ) → i ≡ k → 9 ≤ i + x → 9 ≤ k + x
 ap_le i k x e h = omega arith
 
-wide-requires : tie.Need-wide-requires
-wide-requires c κs = search rules
-
-array-read-result : tie.Need-array-read-result
-array-read-result c = search rules
-
-sub-result : tie.Need-overflow-sub-result
+pub overflow_sub-result : goal.overflow_sub-result
 unfolding levels figure
-sub-result c = leb→le 48 (get_or levels c.before.wide.result 0) (at figure levels tt c.before.wide.result c.if1.true)
+overflow_sub-result c = leb→le 48 (get_or levels c.wide-i.result 0) (at figure levels tt c.wide-i.result c.if-i-lt-KINDS.true)
 
-cast-result : tie.Need-overflow-cast-result
+pub overflow_cast-result : goal.overflow_cast-result
 unfolding levels small
-cast-result c = small_fits (get_or levels c.before.wide.result 0) (at small levels tt c.before.wide.result c.if1.true)
+overflow_cast-result c = small_fits (get_or levels c.wide-i.result 0) (at small levels tt c.wide-i.result c.if-i-lt-KINDS.true)
 
-returns : tie.Need-returns
+pub returns-then-i-lt-KINDS : goal.returns-then-i-lt-KINDS
 unfolding levels right wordy level_of level_in operator_in operators fixed_of spelled_words
-returns c = record {
-  is = eqb→eq (get_or levels c.before.wide.result 0 - 48) (level_of c.before.wide.result) (at right levels tt c.before.wide.result c.if1.true) ∙ ap level_of c.before.wide.ensures;
-  word = ap_le _ _ (get_or levels c.before.wide.result 0 - 48) c.before.wide.ensures (leb→le 9 (c.before.wide.result + (get_or levels c.before.wide.result 0 - 48)) (at wordy levels tt c.before.wide.result c.if1.true));
+returns-then-i-lt-KINDS c = record {
+  is = eqb→eq (get_or levels c.wide-i.result 0 - 48) (level_of c.wide-i.result) (at right levels tt c.wide-i.result c.if-i-lt-KINDS.true) ∙ ap level_of c.wide-i.ensures;
+  word = ap_le _ _ (get_or levels c.wide-i.result 0 - 48) c.wide-i.ensures (leb→le 9 (c.wide-i.result + (get_or levels c.wide-i.result 0 - 48)) (at wordy levels tt c.wide-i.result c.if-i-lt-KINDS.true));
 }
 
-returns-2 : tie.Need-returns-2
+pub returns-else-i-lt-KINDS : goal.returns-else-i-lt-KINDS
 unfolding level_of level_in operator_in operators
-returns-2 c = record { is = sym (ap (λ (s : String). level_in (operator_in operators s)) (fixed_past c.before.before.args.k (search rules))); word = search rules }
-
-pub level-spec : {M : Type 1} → statement M
-level-spec = tie.close (tie.spec wide-requires array-read-result sub-result cast-result returns returns-2)
+returns-else-i-lt-KINDS c = record { is = sym (ap (λ (s : String). level_in (operator_in operators s)) (fixed_past c.args.k (search rules))); word = search rules }

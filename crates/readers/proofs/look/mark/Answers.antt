@@ -13,9 +13,7 @@ use Rattle.tape.specs.Tape.{one_if}
 use Rattle.readers.specs.Marks.{is_mark, is_some, fixed_of}
 use Rattle.signs.specs.Kinds.{spelled_words}
 use Rattle.readers.proofs.Table.{at}
-use borrow.Author.Rules.{rules}
-use Rattle.readers.proofs.look.mark.Statement.{statement}
-use Rattle.readers.proofs.look.mark.Tie as tie
+use Rattle.readers.proofs.look.mark.Goals as goal
 
 marks : List ℕ
 unfolding bytes
@@ -33,20 +31,14 @@ right k x = eqb (x - 48) (one_if (is_mark k))
 small_fits : (x : ℕ) → T (leb x 57) → Fits w32 (x - 48)
 small_fits x t = let h = leb→le x 57 t in omega (arith, h)
 
-array-read-result : tie.Need-array-read-result
-array-read-result c = search rules
-
-sub-result : tie.Need-overflow-sub-result
+pub overflow_sub-result : goal.overflow_sub-result
 unfolding marks figure
-sub-result c = leb→le 48 (get_or marks c.args.i 0) (at figure marks tt c.args.i c.requires)
+overflow_sub-result c = leb→le 48 (get_or marks c.args.i 0) (at figure marks tt c.args.i c.requires)
 
-cast-result : tie.Need-overflow-cast-result
+pub overflow_cast-result : goal.overflow_cast-result
 unfolding marks small
-cast-result c = small_fits (get_or marks c.args.i 0) (at small marks tt c.args.i c.requires)
+overflow_cast-result c = small_fits (get_or marks c.args.i 0) (at small marks tt c.args.i c.requires)
 
-returns : tie.Need-returns
+pub returns : goal.returns
 unfolding marks right one_if is_mark is_some prefix_in prefixes fixed_of spelled_words
 returns c = eqb→eq (get_or marks c.args.i 0 - 48) (one_if (is_mark c.args.i)) (at right marks tt c.args.i c.requires)
-
-pub mark_spec : {M : Type 1} → statement M
-mark_spec = tie.close (tie.spec array-read-result sub-result cast-result returns)
