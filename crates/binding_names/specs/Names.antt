@@ -1,5 +1,5 @@
 -- The lines of a table and their names, and what the reader of a name promises. Assumes nothing: these are definitions.
-use Rattle.std.specs.Prelude.{Bool, ◌&&◌, List, [], ◌∷◌, ℕ, zero, suc, ◌+◌, ◌*◌, ◌≤◌, ◌<◌, ◌-◌, length, get_or, take, drop}
+use Rattle.std.specs.Prelude.{Bool, ◌&&◌, List, [], ◌∷◌, ℕ, zero, suc, ◌+◌, ◌*◌, ◌≤◌, ◌<◌, length, get_or, take, drop}
 use Rattle.language.specs.Limits.{limits}
 use Rattle.language.specs.Words.{name_byte}
 use Rattle.language.specs.Bindings.{Binding, Got, got, lost, may_go_on, fresh_name}

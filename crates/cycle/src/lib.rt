@@ -7,7 +7,7 @@ mod runs;
 
 ghost use Rattle.std.specs.Prelude.{◌≡◌};
 ghost use Rattle.turn.specs.Cycle.{cycle_of};
-ghost use Rattle.cycle.specs.Run.{result, run_of};
+ghost use Rattle.cycle.specs.Run.{result as run_result, run_of};
 ghost use Rattle.turn.specs.Turn.{outcome};
 
 use judged::{Answer, counts, number};
@@ -23,8 +23,8 @@ pub fn cycle(
     memory: &mut [u64],
     outputs: &mut [u64],
 ) -> Done
-    ensures* { λ r. ⌜ outcome r.answer r.present outputs.new memory.new
-        ≡ cycle_of plan.now mask values.now memory.old outputs.old ⌝ }
+    ensures { outcome result.answer result.present outputs.new memory.new
+        ≡ cycle_of plan.now mask values.now memory.old outputs.old }
 {
     if !sound(plan) {
         return refused(Answer::Unsound);
@@ -50,8 +50,8 @@ pub fn run(
     outputs: &mut [u64],
     answers: &mut [u32],
 ) -> u32
-    ensures* { λ r. let after = result r memory.new outputs.new answers.new in
-        ⌜ after ≡ run_of plan.now masks.now values.now memory.old outputs.old answers.old ⌝ }
+    ensures { let after = run_result result memory.new outputs.new answers.new in
+        after ≡ run_of plan.now masks.now values.now memory.old outputs.old answers.old }
 {
     if !sound(plan) {
         return number(Answer::Unsound);

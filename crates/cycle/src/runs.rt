@@ -3,7 +3,7 @@ ghost use Rattle.std.specs.Prelude.{◌≡◌, true, ◌*◌, ◌≤◌, eqb, le
 ghost use Rattle.plan.specs.Layout.{port_count};
 ghost use Rattle.plan.specs.Sound.{sound_of};
 ghost use Rattle.item_steps.specs.Tables.{Tables};
-ghost use Rattle.cycle.specs.Run.{result, turns_of, tables_fit};
+ghost use Rattle.cycle.specs.Run.{result as run_result, turns_of, tables_fit};
 
 use plan::{WAITS, cells_before, memory_count, place, port_count};
 use turn::turn;
@@ -14,7 +14,7 @@ const CELLS: usize = language::Plan::CELLS as usize;
 // A table has n numbers for each of k: told by division, since a product could be too large.
 fn times(len: usize, n: usize, k: usize) -> bool
     requires { 1 ≤ n }
-    ensures* { λ r. ⌜ r ≡ eqb len (k * n) ⌝ }
+    ensures { result ≡ eqb len (k * n) }
 {
     (len / n == k) & (len % n == 0)
 }
@@ -29,7 +29,7 @@ pub fn tables_fit(
     answers: &[u32],
 ) -> bool
     requires { 1 ≤ port_count plan.now }
-    ensures* { λ r. ⌜ r ≡ tables_fit plan.now masks.now values.now memory.now outputs.now answers.now ⌝ }
+    ensures { result ≡ tables_fit plan.now masks.now values.now memory.now outputs.now answers.now }
 {
     let n = place(port_count(plan));
     let k = masks.len();
@@ -52,8 +52,8 @@ fn turns_in(
     requires plan_value { sound_of plan.now ≡ true }
     requires answers_value { tables_fit plan.now masks.now values.now memory.old outputs.old answers.old ≡ true }
     requires tables { Tables memory.old stack.old next.old changed.old }
-    ensures* { λ _. let after = result 0 memory.new outputs.new answers.new in
-        ⌜ after ≡ turns_of plan.now masks.now values.now memory.old outputs.old ⌝ }
+    ensures { let after = run_result 0 memory.new outputs.new answers.new in
+        after ≡ turns_of plan.now masks.now values.now memory.old outputs.old }
 {
     let n = place(port_count(plan));
     let mut at = 0usize;
@@ -89,8 +89,8 @@ pub fn turns(
 )
     requires plan_value { sound_of plan.now ≡ true }
     requires answers_value { tables_fit plan.now masks.now values.now memory.old outputs.old answers.old ≡ true }
-    ensures* { λ _. let after = result 0 memory.new outputs.new answers.new in
-        ⌜ after ≡ turns_of plan.now masks.now values.now memory.old outputs.old ⌝ }
+    ensures { let after = run_result 0 memory.new outputs.new answers.new in
+        after ≡ turns_of plan.now masks.now values.now memory.old outputs.old }
 {
     let mut stack = [0u64; WAITS];
     let mut next = [0u64; CELLS];

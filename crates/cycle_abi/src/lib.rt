@@ -5,7 +5,7 @@
 
 ghost use Rattle.std.specs.Prelude.{◌≡◌};
 ghost use Rattle.turn.specs.Cycle.{cycle_of};
-ghost use Rattle.cycle.specs.Run.{result, run_of};
+ghost use Rattle.cycle.specs.Run.{result as run_result, run_of};
 
 #[unsafe(no_mangle)]
 pub extern "C" fn plan_cycle(
@@ -15,9 +15,9 @@ pub extern "C" fn plan_cycle(
     memory: &mut [u64],
     outputs: &mut [u64],
 ) -> u32
-    ensures* r_value { λ r. ⌜ r ≡ (cycle_of plan.now mask values.now memory.old outputs.old).answer ⌝ }
-    ensures* outputs_after { λ _. ⌜ outputs.new ≡ (cycle_of plan.now mask values.now memory.old outputs.old).outputs ⌝ }
-    ensures* memory_after { λ _. ⌜ memory.new ≡ (cycle_of plan.now mask values.now memory.old outputs.old).memory ⌝ }
+    ensures r_value { result ≡ (cycle_of plan.now mask values.now memory.old outputs.old).answer }
+    ensures outputs_after { outputs.new ≡ (cycle_of plan.now mask values.now memory.old outputs.old).outputs }
+    ensures memory_after { memory.new ≡ (cycle_of plan.now mask values.now memory.old outputs.old).memory }
 {
     let done = cycle::cycle(plan, mask, values, memory, outputs);
     done.answer
@@ -32,8 +32,8 @@ pub extern "C" fn plan_run(
     outputs: &mut [u64],
     answers: &mut [u32],
 ) -> u32
-    ensures* { λ r. let after = result r memory.new outputs.new answers.new in
-        ⌜ after ≡ run_of plan.now masks.now values.now memory.old outputs.old answers.old ⌝ }
+    ensures { let after = run_result result memory.new outputs.new answers.new in
+        after ≡ run_of plan.now masks.now values.now memory.old outputs.old answers.old }
 {
     cycle::run(plan, masks, values, memory, outputs, answers)
 }

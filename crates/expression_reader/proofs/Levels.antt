@@ -15,7 +15,6 @@ use Rattle.words.specs.Table.{word_of}
 use Rattle.tape.specs.Tape.{unary_number, binary_number}
 use Rattle.readers.specs.Marks.{unary_of, unary_in, binary_of, binary_in, count, fixed_of, level_of, level_in, is_mark, is_some}
 use Rattle.readers.specs.Meets.{Kind, Level}
-use Rattle.readers.proofs.Spells.{word}
 
 -- the operator of a kind, by its level
 pub record Operates (text : List ℕ) (k n : ℕ) : Type 0 where

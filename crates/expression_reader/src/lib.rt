@@ -20,7 +20,7 @@ use tape::{
 };
 use type_reader::{constant, part, typed};
 
-#[cycle(arms_binary_choices_default_either_expr_inside_joined_labelled_named_number_operand_operators_parts_select_unary)]
+#[cycle(expressions)]
 pub fn expr(words: &Table, tape: &mut Tape, at: usize, n: usize, arm: bool) -> Out
     requires { Room words.now at n }
     ensures { IsExpr words.now at n tape.old result tape.new arm }
@@ -36,7 +36,7 @@ pub fn expr(words: &Table, tape: &mut Tape, at: usize, n: usize, arm: bool) -> O
 }
 
 // `if`, `then`, `else`.
-#[cycle(arms_binary_choices_default_either_expr_inside_joined_labelled_named_number_operand_operators_parts_select_unary)]
+#[cycle(expressions)]
 fn either(words: &Table, tape: &mut Tape, at: usize, n: usize, arm: bool) -> Out
     requires { Starts words.now at n if_kind }
     ensures { IsExpr words.now at n tape.old result tape.new arm }
@@ -61,7 +61,7 @@ fn either(words: &Table, tape: &mut Tape, at: usize, n: usize, arm: bool) -> Out
 }
 
 // What follows an expression that is on the tape: `?` and `:`, grouped to the left.
-#[cycle(arms_binary_choices_default_either_expr_inside_joined_labelled_named_number_operand_operators_parts_select_unary)]
+#[cycle(expressions)]
 fn choices(words: &Table, tape: &mut Tape, at: usize, n: usize, arm: bool) -> Out
     requires { Room words.now at n }
     ensures { IsChoices words.now at n tape.old result tape.new arm }
@@ -88,7 +88,7 @@ fn choices(words: &Table, tape: &mut Tape, at: usize, n: usize, arm: bool) -> Ou
 }
 
 // Operands with operators of the levels below `below` between them.
-#[cycle(arms_binary_choices_default_either_expr_inside_joined_labelled_named_number_operand_operators_parts_select_unary)]
+#[cycle(expressions)]
 fn binary(words: &Table, tape: &mut Tape, at: usize, n: usize, below: u32, arm: bool) -> Out
     requires room { Room words.now at n }
     requires below_le_loosest { below ≤ loosest }
@@ -101,7 +101,7 @@ fn binary(words: &Table, tape: &mut Tape, at: usize, n: usize, below: u32, arm: 
 }
 
 // What follows an operand that is on the tape.
-#[cycle(arms_binary_choices_default_either_expr_inside_joined_labelled_named_number_operand_operators_parts_select_unary)]
+#[cycle(expressions)]
 fn operators(words: &Table, tape: &mut Tape, at: usize, n: usize, below: u32, arm: bool) -> Out
     requires room { Room words.now at n }
     requires below_le_loosest { below ≤ loosest }
@@ -129,7 +129,7 @@ fn operators(words: &Table, tape: &mut Tape, at: usize, n: usize, below: u32, ar
     }
 }
 
-#[cycle(arms_binary_choices_default_either_expr_inside_joined_labelled_named_number_operand_operators_parts_select_unary)]
+#[cycle(expressions)]
 fn operand(words: &Table, tape: &mut Tape, at: usize, n: usize) -> Out
     requires { Room words.now at n }
     ensures { IsOperand words.now at n tape.old result tape.new }
@@ -154,7 +154,7 @@ fn operand(words: &Table, tape: &mut Tape, at: usize, n: usize) -> Out
 }
 
 // A number: how many copies there are, or a constant.
-#[cycle(arms_binary_choices_default_either_expr_inside_joined_labelled_named_number_operand_operators_parts_select_unary)]
+#[cycle(expressions)]
 fn number(words: &Table, tape: &mut Tape, at: usize, n: usize) -> Out
     requires { Starts words.now at n number_kind }
     ensures { IsOperand words.now at n tape.old result tape.new }
@@ -175,7 +175,7 @@ fn number(words: &Table, tape: &mut Tape, at: usize, n: usize) -> Out
 }
 
 // A name: a cell of a memory, or what is read, with bit positions.
-#[cycle(arms_binary_choices_default_either_expr_inside_joined_labelled_named_number_operand_operators_parts_select_unary)]
+#[cycle(expressions)]
 fn named(words: &Table, tape: &mut Tape, at: usize, n: usize) -> Out
     requires { Starts words.now at n name_kind }
     ensures { IsOperand words.now at n tape.old result tape.new }
@@ -200,7 +200,7 @@ fn named(words: &Table, tape: &mut Tape, at: usize, n: usize) -> Out
 }
 
 // An expression in parentheses, with bit positions.
-#[cycle(arms_binary_choices_default_either_expr_inside_joined_labelled_named_number_operand_operators_parts_select_unary)]
+#[cycle(expressions)]
 fn inside(words: &Table, tape: &mut Tape, at: usize, n: usize) -> Out
     requires { Starts words.now at n open_kind }
     ensures { IsOperand words.now at n tape.old result tape.new }
@@ -216,7 +216,7 @@ fn inside(words: &Table, tape: &mut Tape, at: usize, n: usize) -> Out
 }
 
 // A concatenation.
-#[cycle(arms_binary_choices_default_either_expr_inside_joined_labelled_named_number_operand_operators_parts_select_unary)]
+#[cycle(expressions)]
 fn joined(words: &Table, tape: &mut Tape, at: usize, n: usize) -> Out
     requires { Starts words.now at n brace_kind }
     ensures { IsOperand words.now at n tape.old result tape.new }
@@ -237,7 +237,7 @@ fn joined(words: &Table, tape: &mut Tape, at: usize, n: usize) -> Out
 }
 
 // What follows a part that is on the tape.
-#[cycle(arms_binary_choices_default_either_expr_inside_joined_labelled_named_number_operand_operators_parts_select_unary)]
+#[cycle(expressions)]
 fn parts(words: &Table, tape: &mut Tape, at: usize, n: usize) -> Out
     requires { Room words.now at n }
     ensures { IsParts words.now at n tape.old result tape.new }
@@ -260,7 +260,7 @@ fn parts(words: &Table, tape: &mut Tape, at: usize, n: usize) -> Out
 }
 
 // An operator before its operand.
-#[cycle(arms_binary_choices_default_either_expr_inside_joined_labelled_named_number_operand_operators_parts_select_unary)]
+#[cycle(expressions)]
 fn unary(words: &Table, tape: &mut Tape, at: usize, n: usize, k: u32) -> Out
     requires { StartsMark words.now at n k }
     ensures { IsOperand words.now at n tape.old result tape.new }
@@ -275,7 +275,7 @@ fn unary(words: &Table, tape: &mut Tape, at: usize, n: usize, k: u32) -> Out
 }
 
 // A case: its selector, then its arms.
-#[cycle(arms_binary_choices_default_either_expr_inside_joined_labelled_named_number_operand_operators_parts_select_unary)]
+#[cycle(expressions)]
 fn select(words: &Table, tape: &mut Tape, at: usize, n: usize) -> Out
     requires { Starts words.now at n case_kind }
     ensures { IsOperand words.now at n tape.old result tape.new }
@@ -302,7 +302,7 @@ fn select(words: &Table, tape: &mut Tape, at: usize, n: usize) -> Out
 }
 
 // The arms, to their `}`.
-#[cycle(arms_binary_choices_default_either_expr_inside_joined_labelled_named_number_operand_operators_parts_select_unary)]
+#[cycle(expressions)]
 fn arms(words: &Table, tape: &mut Tape, at: usize, n: usize) -> Out
     requires { Room words.now at n }
     ensures { IsArms words.now at n tape.old result tape.new }
@@ -316,7 +316,7 @@ fn arms(words: &Table, tape: &mut Tape, at: usize, n: usize) -> Out
 }
 
 // An arm with its label, and the arms after it.
-#[cycle(arms_binary_choices_default_either_expr_inside_joined_labelled_named_number_operand_operators_parts_select_unary)]
+#[cycle(expressions)]
 fn labelled(words: &Table, tape: &mut Tape, at: usize, n: usize) -> Out
     requires { Starts words.now at n number_kind }
     ensures { IsArms words.now at n tape.old result tape.new }
@@ -340,7 +340,7 @@ fn labelled(words: &Table, tape: &mut Tape, at: usize, n: usize) -> Out
 }
 
 // The last arm.
-#[cycle(arms_binary_choices_default_either_expr_inside_joined_labelled_named_number_operand_operators_parts_select_unary)]
+#[cycle(expressions)]
 fn default(words: &Table, tape: &mut Tape, at: usize, n: usize) -> Out
     requires { Starts words.now at n rest_kind }
     ensures { IsArms words.now at n tape.old result tape.new }

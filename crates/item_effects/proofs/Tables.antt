@@ -1,13 +1,12 @@
 -- The tables of the walk: what waits, what an item stores. Assumes nothing.
-use mathlib.Core.Path.{◌≡◌, refl, sym, ap, ap₂, ◌∙◌}
+use mathlib.Core.Path.{◌≡◌, refl, sym, ap, ◌∙◌}
 use mathlib.Core.Bool.{Bool, true, false, ◌&&◌}
-use mathlib.Core.List.{List, [], ◌∷◌, ◌++◌}
+use mathlib.Core.List.{List, ◌∷◌}
 use Prim.Native.Nat.{ℕ, zero, suc, ◌+◌, ◌-◌, ◌≤◌, ◌<◌}
-use native.Mathlib.Numerals.{add-one}
 use native.Mathlib.Omega.{arith}
 use lib.Dec.{ltb}
-use lib.ListN.{length, set, take, drop, length-append, take-append-drop}
-use lib.Seq.{sets, sets-eq, take_at, drop_at, length-take-le, drop-drop, take-suc-set, drop-set-lt, set_out}
+use lib.ListN.{length, set, take, drop}
+use lib.Seq.{set_out}
 use borrow.Author.Tests.{ltb-false}
 use Rattle.plan.specs.Waits.{top}
 use Rattle.laws.proofs.Tables.{stored_one}

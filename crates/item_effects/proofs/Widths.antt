@@ -1,5 +1,5 @@
 -- The code's tests of widths are those of Effects.antt, and what its arms know of an operator. Assumes nothing.
-use mathlib.Core.Path.{◌≡◌, refl, sym, ap, ◌∙◌}
+use mathlib.Core.Path.{◌≡◌, refl}
 use mathlib.Core.Bool.{Bool, true, false, not, ◌&&◌, ◌||◌}
 use mathlib.Core.List.{List, [], ◌∷◌, map}
 use Prim.Native.Nat.{ℕ, zero, suc, ◌≤◌, ◌<◌, ◌*◌, ◌^◌}
@@ -7,12 +7,10 @@ use native.Mathlib.Omega.{arith}
 use native.Mathlib.Nat.{mul-le-mul}
 use lib.Dec.{leb, ltb}
 use lib.ListN.{get_or}
-use borrow.Author.Tests.{leb-true, leb-false, lt-ltb, le-ltb}
-use types.Run.{OneOf, miss}
-use denote.Enum.Declared.{tag_of}
+use borrow.Author.Tests.{leb-true}
+use Rattle.language.specs.declared.Unary.{Unary}
 use Rattle.language.specs.declared.Binary.{Binary}
 use Rattle.language.specs.declared.Binary.TheVariants.{Multiply, Divide, Remainder, Add, Subtract, Left, Right, Less, AtMost, Greater, AtLeast, Equal, Unequal, And, NotAnd, Xor, NotXor, Or, NotOr, Both, Either}
-use Rattle.plan.specs.contracts.Item as item
 use Rattle.plan.proofs.Tests.{and_left, and_right}
 use Rattle.plan.specs.declared.Item.{Item}
 use Rattle.plan.specs.declared.Item.TheVariants.{Const, Port, Let, Cell, Range, Copies, Beside, Before, Between, Choice, Arm, Keep, Assign, Write, Bad}
@@ -57,11 +55,8 @@ same_widths a m n o x y e = go binaries a e
     go (b ∷ l) zero f = (cc, cc)
     go (b ∷ l) (suc k) f = go l k f
 
--- the numbers of all items but an operator before its operand, and but one between its operands: such an item has no width here
-abbrev not_before : List ℕ
-not_before = 0 ∷ 1 ∷ 2 ∷ 3 ∷ 4 ∷ 5 ∷ 6 ∷ 8 ∷ 9 ∷ 10 ∷ 11 ∷ 12 ∷ 13 ∷ 14 ∷ []
-
-pub no_before : (i : Item) → OneOf not_before (tag_of item.the_type_law i) → 0 ≡ before_width i
+-- an item that is no operator before its operand, and one that is none between its operands, has no width here
+pub no_before : (i : Item) → ((u : Unary) (w : ℕ) → i ≡ Before u w → ⊥) → 0 ≡ before_width i
 unfolding before_width
 no_before (Const w lo hi) h = refl
 no_before (Port i) h = refl
@@ -70,7 +65,7 @@ no_before (Cell m f n) h = refl
 no_before (Range i j) h = refl
 no_before (Copies n w) h = refl
 no_before (Beside w) h = refl
-no_before (Before u w) h = absurd (miss not_before 7 tt h)
+no_before (Before u w) h = absurd (h u w refl)
 no_before (Between o m n) h = refl
 no_before Choice h = refl
 no_before (Arm n k) h = refl
@@ -79,10 +74,7 @@ no_before (Assign p) h = refl
 no_before (Write m f n) h = refl
 no_before Bad h = refl
 
-abbrev not_between : List ℕ
-not_between = 0 ∷ 1 ∷ 2 ∷ 3 ∷ 4 ∷ 5 ∷ 6 ∷ 7 ∷ 9 ∷ 10 ∷ 11 ∷ 12 ∷ 13 ∷ 14 ∷ []
-
-pub no_between : (i : Item) → OneOf not_between (tag_of item.the_type_law i) → 0 ≡ between_width i
+pub no_between : (i : Item) → ((o : Binary) (m n : ℕ) → i ≡ Between o m n → ⊥) → 0 ≡ between_width i
 unfolding between_width
 no_between (Const w lo hi) h = refl
 no_between (Port i) h = refl
@@ -92,7 +84,7 @@ no_between (Range i j) h = refl
 no_between (Copies n w) h = refl
 no_between (Beside w) h = refl
 no_between (Before u w) h = refl
-no_between (Between o m n) h = absurd (miss not_between 8 tt h)
+no_between (Between o m n) h = absurd (h o m n refl)
 no_between Choice h = refl
 no_between (Arm n k) h = refl
 no_between (Keep k w) h = refl
@@ -100,10 +92,7 @@ no_between (Assign p) h = refl
 no_between (Write m f n) h = refl
 no_between Bad h = refl
 
-abbrev not_keep : List ℕ
-not_keep = 0 ∷ 1 ∷ 2 ∷ 3 ∷ 4 ∷ 5 ∷ 6 ∷ 7 ∷ 8 ∷ 9 ∷ 10 ∷ 12 ∷ 13 ∷ 14 ∷ []
-
-pub no_keep : (i : Item) → OneOf not_keep (tag_of item.the_type_law i) → 0 ≡ kept_in i
+pub no_keep : (i : Item) → ((k w : ℕ) → i ≡ Keep k w → ⊥) → 0 ≡ kept_in i
 unfolding kept_in
 no_keep (Const w lo hi) h = refl
 no_keep (Port i) h = refl
@@ -116,7 +105,7 @@ no_keep (Before u w) h = refl
 no_keep (Between o m n) h = refl
 no_keep Choice h = refl
 no_keep (Arm n k) h = refl
-no_keep (Keep k w) h = absurd (miss not_keep 11 tt h)
+no_keep (Keep k w) h = absurd (h k w refl)
 no_keep (Assign p) h = refl
 no_keep (Write m f n) h = refl
 no_keep Bad h = refl

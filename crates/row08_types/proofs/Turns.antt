@@ -28,7 +28,7 @@ use Rattle.tape.specs.contracts.Node as node
 abbrev in_types : List ℕ
 in_types = 0 ∷ 1 ∷ 2 ∷ 3 ∷ 4 ∷ 5 ∷ 6 ∷ 7 ∷ 8 ∷ []
 
-pub in_types_law : (k : Node) → OneOf in_types (tag_of node.the_type_law k) → true ≡ is_type k
+pub in_types_law : (k : Node) → OneOf in_types (tag_of node.the_type k) → true ≡ is_type k
 unfolding is_type
 in_types_law Number h = refl
 in_types_law Name h = refl
@@ -44,7 +44,7 @@ in_types_law Other h = absurd (miss in_types 9 tt h)
 abbrev not_outer : List ℕ
 not_outer = 0 ∷ 1 ∷ 2 ∷ 8 ∷ 9 ∷ []
 
-pub not_outer_law : (s : Around) (k : Node) → OneOf not_outer (tag_of node.the_type_law k) → s ≡ outer_of s k
+pub not_outer_law : (s : Around) (k : Node) → OneOf not_outer (tag_of node.the_type k) → s ≡ outer_of s k
 unfolding outer_of
 not_outer_law s Number h = refl
 not_outer_law s Name h = refl
@@ -60,7 +60,7 @@ not_outer_law s Other h = refl
 abbrev not_joined : List ℕ
 not_joined = 5 ∷ 6 ∷ 7 ∷ 8 ∷ 9 ∷ []
 
-pub not_joined_law : (n : ℕ) (k : Node) → OneOf not_joined (tag_of node.the_type_law k) → (n ≡ waiting_of n k) × (n ≡ coming_of n k)
+pub not_joined_law : (n : ℕ) (k : Node) → OneOf not_joined (tag_of node.the_type k) → (n ≡ waiting_of n k) × (n ≡ coming_of n k)
 unfolding waiting_of coming_of
 not_joined_law n Number h = absurd (miss not_joined 0 tt h)
 not_joined_law n Name h = absurd (miss not_joined 1 tt h)
@@ -76,7 +76,7 @@ not_joined_law n Other h = (refl, refl)
 abbrev not_counted : List ℕ
 not_counted = 0 ∷ 1 ∷ 2 ∷ 3 ∷ 4 ∷ 7 ∷ 8 ∷ 9 ∷ []
 
-pub not_counted_law : (s : Count) (k : Node) → OneOf not_counted (tag_of node.the_type_law k) → tally 0 (coming_of s.need k) s.logs ≡ count_in s k
+pub not_counted_law : (s : Count) (k : Node) → OneOf not_counted (tag_of node.the_type k) → tally 0 (coming_of s.need k) s.logs ≡ count_in s k
 unfolding coming_of count_in
 not_counted_law s Number h = refl
 not_counted_law s Name h = refl
@@ -92,7 +92,7 @@ not_counted_law s Other h = refl
 abbrev not_tested : List ℕ
 not_tested = 1 ∷ 3 ∷ 4 ∷ 6 ∷ 8 ∷ 9 ∷ []
 
-not_tested_law : (ks : List Node) (k : Node) (v : ℕ) (s : Around) → OneOf not_tested (tag_of node.the_type_law k) → false ≡ test ks k v s
+not_tested_law : (ks : List Node) (k : Node) (v : ℕ) (s : Around) → OneOf not_tested (tag_of node.the_type k) → false ≡ test ks k v s
 unfolding test
 not_tested_law ks Number v s h = absurd (miss not_tested 0 tt h)
 not_tested_law ks Name v s h = refl
@@ -269,5 +269,5 @@ module _ (t : List ℕ) (n i : ℕ) {q : Node} (e : q ≡ node_of (op_at t i)) w
   unfolding test
   log_test f g = g ∙ as_node f
 
-  pub no_test : OneOf not_tested (tag_of node.the_type_law q) → false ≡ faulty t n i
+  pub no_test : OneOf not_tested (tag_of node.the_type q) → false ≡ faulty t n i
   no_test h = not_tested_law (nodes_before t i) q (value_at t i) _ h ∙ as_node refl

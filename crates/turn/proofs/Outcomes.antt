@@ -1,7 +1,7 @@
 -- The answers of a cycle, test by test. Assumes nothing.
-use Prim.Native.Nat.{ℕ, zero, suc, ◌+◌, ◌-◌, ◌*◌, ◌^◌, ◌≤◌, ◌<◌}
-use mathlib.Core.Path.{◌≡◌, refl, sym, ap, ap₂, ◌∙◌, subst}
-use mathlib.Core.List.{List, [], ◌∷◌, append-nil}
+use Prim.Native.Nat.{ℕ, zero, suc, ◌+◌, ◌≤◌}
+use mathlib.Core.Path.{◌≡◌, refl, sym, ap, ap₂, ◌∙◌}
+use mathlib.Core.List.{List, [], append-nil}
 use mathlib.Core.Bool.{Bool, true, false, ◌&&◌}
 use native.Mathlib.Omega.{arith}
 use lib.Dec.{eqb, leb}
@@ -9,7 +9,7 @@ use lib.ListN.{length, take, replicate, drop_of_length-le}
 use lib.Seq.{paste}
 use borrow.Author.Tests.{eq-eqb, eqb-true, leb-true}
 use Rattle.language.specs.Values.{ones_of}
-use Rattle.language.specs.Meaning.{Outcome, twice, written}
+use Rattle.language.specs.Meaning.{Outcome, written}
 use Rattle.plan.specs.Layout.{port_count, memory_count, memory_width_at, memory_size_at, cells_before, group_count}
 use Rattle.plan.specs.Sound.{sound_of, sections_ok, memory_fits}
 use Rattle.plan.proofs.Tests.{and_left, and_right}

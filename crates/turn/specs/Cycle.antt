@@ -1,5 +1,5 @@
 -- What a plan does in a cycle, on lists. Assumes nothing: these are definitions.
-use Rattle.std.specs.Prelude.{true, false, List, [], ℕ, length, replicate}
+use Rattle.std.specs.Prelude.{true, false, List, [], ℕ, replicate}
 use Rattle.language.specs.Values.{ones_of}
 use Rattle.language.specs.Meaning.{Outcome, twice, written}
 use Rattle.plan.specs.Layout.{port_count, group_count}
@@ -7,7 +7,7 @@ use Rattle.plan.specs.Sound.{sound_of}
 use Rattle.item_steps.specs.Machine.{State, state, exec_rules}
 use Rattle.judged.specs.declared.Answer.TheVariants.{Accepted, Unsound, Miscounted, Unfit, Clash}
 use Rattle.judged.specs.Answers.{number_of}
-use Rattle.judged.specs.Groups.{Fired, fired, unfired, firing}
+use Rattle.judged.specs.Groups.{fired, unfired, firing}
 use Rattle.judged.specs.Tests.{fitting, counts}
 
 module _ (p : List ℕ) where

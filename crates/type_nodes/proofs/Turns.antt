@@ -27,7 +27,7 @@ use Rattle.type_nodes.specs.contracts.Role as role
 abbrev not_over : List ℕ
 not_over = 0 ∷ 1 ∷ 2 ∷ 3 ∷ 4 ∷ 6 ∷ []
 
-pub not_over_law : (k : Role) → OneOf not_over (tag_of role.the_type_law k) → (false ≡ is_over k) × ((n : ℕ) → n ≡ kept_of k 0 n)
+pub not_over_law : (k : Role) → OneOf not_over (tag_of role.the_type k) → (false ≡ is_over k) × ((n : ℕ) → n ≡ kept_of k 0 n)
 unfolding is_over kept_of
 not_over_law Node h = (refl, λ n. refl)
 not_over_law Keep h = (refl, λ n. refl)
@@ -40,7 +40,7 @@ not_over_law Clear h = (refl, λ n. refl)
 abbrev not_counted : List ℕ
 not_counted = 0 ∷ 1 ∷ 3 ∷ 5 ∷ 6 ∷ []
 
-pub not_counted_law : (c : Counts) (k : Role) → OneOf not_counted (tag_of role.the_type_law k) → c ≡ counted_of c k
+pub not_counted_law : (c : Counts) (k : Role) → OneOf not_counted (tag_of role.the_type k) → c ≡ counted_of c k
 unfolding counted_of
 not_counted_law c Node h = refl
 not_counted_law c Keep h = refl
@@ -53,7 +53,7 @@ not_counted_law c Clear h = refl
 abbrev not_memory : List ℕ
 not_memory = 0 ∷ 1 ∷ 2 ∷ 3 ∷ 5 ∷ 6 ∷ []
 
-pub not_memory_law : (g : Goal) (k : Role) → OneOf not_memory (tag_of role.the_type_law k) → g ≡ left_of g k
+pub not_memory_law : (g : Goal) (k : Role) → OneOf not_memory (tag_of role.the_type k) → g ≡ left_of g k
 unfolding left_of
 not_memory_law g Node h = refl
 not_memory_law g Keep h = refl
@@ -66,7 +66,7 @@ not_memory_law g Clear h = refl
 abbrev not_holding : List ℕ
 not_holding = 0 ∷ 1 ∷ 2 ∷ 6 ∷ []
 
-pub not_holding_law : (text : List ℕ) (g : Goal) (k : Role) (p : ℕ) → OneOf not_holding (tag_of role.the_type_law k) → false ≡ stops_at text g k p
+pub not_holding_law : (text : List ℕ) (g : Goal) (k : Role) (p : ℕ) → OneOf not_holding (tag_of role.the_type k) → false ≡ stops_at text g k p
 unfolding stops_at
 not_holding_law text g Node p h = refl
 not_holding_law text g Keep p h = refl
@@ -79,7 +79,7 @@ not_holding_law text g Clear p h = refl
 abbrev not_in_type : List ℕ
 not_in_type = 2 ∷ 3 ∷ 4 ∷ 5 ∷ 6 ∷ []
 
-pub not_in_type_law : (k : Role) (l : List ℕ) (x : ℕ) → OneOf not_in_type (tag_of role.the_type_law k) → [] ≡ grown_of k l x
+pub not_in_type_law : (k : Role) (l : List ℕ) (x : ℕ) → OneOf not_in_type (tag_of role.the_type k) → [] ≡ grown_of k l x
 unfolding grown_of
 not_in_type_law Node l x h = absurd (miss not_in_type 0 tt h)
 not_in_type_law Keep l x h = absurd (miss not_in_type 1 tt h)

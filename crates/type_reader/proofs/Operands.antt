@@ -4,7 +4,7 @@ use mathlib.Core.List.{List}
 use Prim.Native.Nat.{ℕ, suc, ◌+◌, ◌-◌}
 use native.Mathlib.Omega.{arith}
 use lib.ListN.{drop, take, get_or}
-use Rattle.language.specs.Words.{Word, digits, Numeral, value_in_base, base_of}
+use Rattle.language.specs.Words.{Word, Numeral, value_in_base, base_of}
 use Rattle.language.specs.Tree.{Ty, Breadth, bits, given, value, Expr, plain, sized, bit, range}
 use Rattle.language.specs.Grammar.{prefixes, prefix_in}
 use Rattle.language.specs.Reader.{ok, bad, bind, on, is, is_num, is_name, is_digits, expect, until}

@@ -16,7 +16,7 @@ use readers::{Out, Table, Tape, closed, emit, kind, put, sum, the_type, value};
 use signs::kinds;
 use tape::{CEIL, ENTRY, ENVIRONMENT, FLOOR, LOG, MOST, NUMBER, PORT, WITHIN};
 
-#[cycle(entries_function_most_sums_term_typ_within)]
+#[cycle(types)]
 pub fn typ(words: &Table, tape: &mut Tape, at: usize, n: usize) -> Out
     requires { Room words.now at n }
     ensures { IsType words.now at n tape.old result tape.new }
@@ -28,7 +28,7 @@ pub fn typ(words: &Table, tape: &mut Tape, at: usize, n: usize) -> Out
 }
 
 // What follows a term that is on the tape.
-#[cycle(entries_function_most_sums_term_typ_within)]
+#[cycle(types)]
 fn sums(words: &Table, tape: &mut Tape, at: usize, n: usize) -> Out
     requires { Room words.now at n }
     ensures { IsSums words.now at n tape.old result tape.new }
@@ -51,7 +51,7 @@ fn sums(words: &Table, tape: &mut Tape, at: usize, n: usize) -> Out
     }
 }
 
-#[cycle(entries_function_most_sums_term_typ_within)]
+#[cycle(types)]
 fn term(words: &Table, tape: &mut Tape, at: usize, n: usize) -> Out
     requires { Room words.now at n }
     ensures { IsTerm words.now at n tape.old result tape.new }
@@ -98,7 +98,7 @@ fn environment(words: &Table, tape: &mut Tape, at: usize, n: usize) -> Out
 }
 
 // `log`, `ceil` or `floor` of a type.
-#[cycle(entries_function_most_sums_term_typ_within)]
+#[cycle(types)]
 fn function(words: &Table, tape: &mut Tape, at: usize, n: usize, op: u32) -> Out
     requires starts { Starts words.now at n (op + (log_kind - LOG)) }
     requires le_op { LOG ≤ op }
@@ -120,7 +120,7 @@ fn function(words: &Table, tape: &mut Tape, at: usize, n: usize, op: u32) -> Out
 }
 
 // `max` of its entries.
-#[cycle(entries_function_most_sums_term_typ_within)]
+#[cycle(types)]
 fn most(words: &Table, tape: &mut Tape, at: usize, n: usize) -> Out
     requires { Starts words.now at n max_kind }
     ensures { IsTerm words.now at n tape.old result tape.new }
@@ -145,7 +145,7 @@ fn most(words: &Table, tape: &mut Tape, at: usize, n: usize) -> Out
 }
 
 // What follows an entry that is on the tape.
-#[cycle(entries_function_most_sums_term_typ_within)]
+#[cycle(types)]
 fn entries(words: &Table, tape: &mut Tape, at: usize, n: usize) -> Out
     requires { Room words.now at n }
     ensures { IsEntries words.now at n tape.old result tape.new }
@@ -168,7 +168,7 @@ fn entries(words: &Table, tape: &mut Tape, at: usize, n: usize) -> Out
 }
 
 // A type in parentheses.
-#[cycle(entries_function_most_sums_term_typ_within)]
+#[cycle(types)]
 fn within(words: &Table, tape: &mut Tape, at: usize, n: usize) -> Out
     requires { Starts words.now at n open_kind }
     ensures { IsTerm words.now at n tape.old result tape.new }

@@ -1,6 +1,6 @@
 -- The values that wait, in cells: what a store puts on them, and what a node finds. Assumes nothing.
 use mathlib.Core.Path.{◌≡◌, refl, sym, ap, ap₂, ◌∙◌, subst, subst₂}
-use mathlib.Core.List.{List, [], ◌∷◌}
+use mathlib.Core.List.{List, ◌∷◌}
 use Prim.Native.Nat.{ℕ, zero, suc, ◌+◌, ◌-◌, ◌*◌, ◌/◌, ◌%◌, ◌≤◌, ◌<◌}
 use native.Mathlib.Nat.{not-le_of_lt, lt_of_lt_of_le, le_trans, zero-lt-suc}
 use native.Mathlib.Numerals.{add-one}

@@ -2,18 +2,17 @@
 use mathlib.Core.Path.{◌≡◌, refl, sym, ap, ap₂, ◌∙◌, subst}
 use mathlib.Core.Bool.{Bool, true, false, ◌&&◌, ◌||◌}
 use mathlib.Core.List.{List, [], ◌∷◌}
-use Prim.Native.Nat.{ℕ, zero, suc, ◌+◌, ◌-◌, ◌*◌, ◌/◌, ◌%◌, ◌^◌, ◌≤◌, ◌<◌}
+use Prim.Native.Nat.{ℕ, zero, suc, ◌+◌, ◌-◌, ◌/◌, ◌%◌, ◌≤◌, ◌<◌}
 use native.Mathlib.Omega.{arith}
-use lib.Dec.{eqb, ltb, leb, lit≤, lit<}
+use lib.Dec.{eqb, ltb, lit≤, lit<}
 use lib.ListN.{length, get_or}
-use borrow.Author.Tests.{lt-ltb, le-ltb, le-leb, lt-leb, ltb-true, ltb-false, leb-true, leb-false, eqb-false, eq-eqb, ne_eqb}
-use native.Mathlib.Nat.{div-lt_iff_lt-mul, le-div_iff_mul-le}
+use borrow.Author.Tests.{lt-ltb, le-ltb, ltb-true, ltb-false, eqb-false, ne_eqb}
 use Rattle.language.specs.declared.Exact.{Exact}
 use Rattle.language.specs.Types.{whole_of}
 use Rattle.type_value.specs.Terms.{Term, code, value_at, TypeOf, Small}
 use Rattle.type_value.specs.Walk.{part, TermStands, Turned, turn, walk, Ready, leaf, unary, binary, last_has_space, last_two_have_room, is_ready, alone, value_from, value_of, exact_at, waiting}
-use Rattle.exact_room.specs.Tests.{fits, has_space, sums_fit, products_fit, has_room}
-use Rattle.exact.specs.Room.{Space, Room}
+use Rattle.exact_room.specs.Tests.{has_space, has_room}
+use Rattle.exact.specs.Room.{Space}
 use Rattle.type_value.proofs.Bounds.{space}
 use Rattle.type_value.proofs.Walking.{part_more, part_none, walk_whole, Safe, safe_whole}
 use Rattle.exact_room.proofs.Fitting.{both, and, space_of_test, test_of_space, room_of_test, test_of_room}

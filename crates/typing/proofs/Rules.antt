@@ -15,7 +15,7 @@ use Rattle.language.specs.Parts.{each, type_ports}
 use Rattle.language.specs.Names.{when, missing}
 use Rattle.language.specs.Counts.{type_words}
 use Rattle.language.specs.Types.{whole_of, plus_of, minus_of, log_of, floor_of, ceil_of, greater_of, width_of, exact_of, logs, rules_broken, type_faults}
-use Rattle.type_value.specs.Terms.{Term, number, port, log, floor, ceil, plus, minus, code, value_at, resolve, logs_in, Closed, Fine, TypeOf}
+use Rattle.type_value.specs.Terms.{Term, code, value_at, resolve, logs_in, Closed, Fine, TypeOf}
 use Rattle.type_value.proofs.Bounds.{one_long, two_long}
 
 -- ---- the same value

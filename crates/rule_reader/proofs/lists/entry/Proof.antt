@@ -40,35 +40,35 @@ returns-3 : tie.Need-returns-3
 returns-3 c = record {
   moved = omega (arith, c.before.before.before.before.before.before.requires);
   agrees = λ M f h. rw
-      (entry_p_law M f _ (sym c.before.before.before.before.before.kind.ensures.is ∙ c.before.before.before.before.if1.false) (sym c.before.before.before.kind2.ensures.is ∙ c.before.before.if2.false) (sym c.before.the_p_law.ensures ∙ not-true _ c.if3.true)) fault;
+      (entry_p_law M f _ (sym c.before.before.before.before.before.kind.ensures.is ∙ c.before.before.before.before.if1.false) (sym c.before.before.before.kind2.ensures.is ∙ c.before.before.if2.false) (sym c.before.the_p.ensures ∙ not-true _ c.if3.true)) fault;
 }
 
 add-kind-2 : tie.Need-overflow-add-kind-2
 add-kind-2 c = search rules
 
 kind-requires-3 : tie.Need-kind-requires-3
-kind-requires-3 c κs = let i = p_inside _ _ (sym c.before.the_p_law.ensures ∙ not-false _ c.if3.false) in omega (arith, c.before.before.before.before.before.before.requires)
+kind-requires-3 c κs = let i = p_inside _ _ (sym c.before.the_p.ensures ∙ not-false _ c.if3.false) in omega (arith, c.before.before.before.before.before.before.requires)
 
 add-t13 : tie.Need-overflow-add-t13
 add-t13 c = search rules
 
 returns-4 : tie.Need-returns-4
-returns-4 c = let i = p_inside _ _ (sym c.before.before.before.the_p_law.ensures ∙ not-false _ c.before.before.if3.false) in
+returns-4 c = let i = p_inside _ _ (sym c.before.before.before.the_p.ensures ∙ not-false _ c.before.before.if3.false) in
     record {
       moved = omega (arith, c.before.before.before.before.before.before.before.before.requires);
       agrees = λ M f h. rw
           (entry_second M f _ (sym c.before.before.before.before.before.before.before.kind.ensures.is ∙ c.before.before.before.before.before.before.if1.false) (sym c.before.before.before.before.before.kind2.ensures.is ∙ c.before.before.before.before.if2.false)
-          (sym c.before.before.before.the_p_law.ensures ∙ not-false _ c.before.before.if3.false) (λ q. c.if4.true (c.before.kind3.ensures.is ∙ q))) fault;
+          (sym c.before.before.before.the_p.ensures ∙ not-false _ c.before.before.if3.false) (λ q. c.if4.true (c.before.kind3.ensures.is ∙ q))) fault;
     }
 
 figure-requires : tie.Need-figure-requires
-figure-requires c κs = let i = p_inside _ _ (sym c.before.before.before.before.the_p_law.ensures ∙ not-false _ c.before.before.before.if3.false) in omega (arith, c.before.before.before.before.before.before.before.before.before.requires)
+figure-requires c κs = let i = p_inside _ _ (sym c.before.before.before.before.the_p.ensures ∙ not-false _ c.before.before.before.if3.false) in omega (arith, c.before.before.before.before.before.before.before.before.before.requires)
 
 returns-5 : tie.Need-returns-5
 returns-5 c = record {
   moved = c.figure.ensures.moved;
   agrees = λ M f h. rw (entry_figure M f _ (sym c.before.before.before.before.before.before.before.before.before.kind.ensures.is ∙ c.before.before.before.before.before.before.before.before.if1.false)
-      (sym c.before.before.before.before.before.before.before.kind2.ensures.is ∙ c.before.before.before.before.before.before.if2.false) (sym c.before.before.before.before.before.the_p_law.ensures ∙ not-false _ c.before.before.before.before.if3.false) (sym c.before.before.before.kind3.ensures.is ∙ c.before.before.if4.false))
+      (sym c.before.before.before.before.before.before.before.kind2.ensures.is ∙ c.before.before.before.before.before.before.if2.false) (sym c.before.before.before.before.before.the_p.ensures ∙ not-false _ c.before.before.before.before.if3.false) (sym c.before.before.before.kind3.ensures.is ∙ c.before.before.if4.false))
       (c.figure.ensures.agrees M f (omega (arith, c.before.before.before.before.before.before.before.before.before.before.requires)));
 }
 

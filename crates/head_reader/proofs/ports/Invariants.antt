@@ -1,0 +1,13 @@
+-- `head_reader::ports` meets its contract. Assumes nothing.
+use Prim.Native.Nat.{◌-◌}
+use Rattle.language.specs.Parser.{is_way, port_p}
+use Rattle.tape.specs.Tape.{flat_port}
+use Rattle.readers.specs.Marks.{count}
+use Rattle.readers.proofs.Lists.{Listed}
+use Rattle.head_reader.proofs.ports.Given as goal
+
+abbrev pub invariant-loop-at : goal.invariant-loop-at
+invariant-loop-at l = Listed flat_port is_way (λ ms f i r. port_p f i r) l.words l.initial.x l.initial.m l.initial.tape l.x l.m l.tape
+
+abbrev pub decreases-loop-at : goal.decreases-loop-at
+decreases-loop-at l = count l.words - l.x

@@ -1,0 +1,13 @@
+-- `head_reader::signature` meets its contract. Assumes nothing.
+use Prim.Native.Nat.{◌-◌}
+use Rattle.language.specs.Parser.{name_p}
+use Rattle.tape.specs.Tape.{flat_signed}
+use Rattle.readers.specs.Marks.{count}
+use Rattle.readers.proofs.Commas.{Commas}
+use Rattle.head_reader.proofs.signature.Given as goal
+
+abbrev pub invariant-loop-y : goal.invariant-loop-y
+invariant-loop-y l = Commas flat_signed (λ f l. name_p f l) l.words l.initial.x l.initial.m l.initial.tape l.x l.m l.tape
+
+abbrev pub decreases-loop-y : goal.decreases-loop-y
+decreases-loop-y l = count l.words - l.x
