@@ -13,7 +13,7 @@ use lib.ListN.{length, take, drop, get_or}
 use lib.Seq.{drop-cons}
 use borrow.Author.Tests.{lt-ltb, le-ltb, eqb-true, ltb-true}
 use Rattle.language.specs.Text.{same, index, among}
-use Rattle.language.specs.Words.{name, fixed, word, wrong, bytes, spellings, some_of, plain_byte, letter, span, name_byte, digit, gap, after_gaps, keywords, left_out_law, first_of_law, good_name, own_name, name_next, named_next}
+use Rattle.language.specs.Words.{fixed, word, wrong, bytes, spellings, some_of, plain_byte, letter, span, name_byte, digit, gap, after_gaps, keywords, left_out_law, first_of_law, good_name, own_name, name_next, named_next}
 use Rattle.spelling.proofs.Laws.{all_below, below_all, rows_many, among_index, never, same_eq, spelling_at}
 use Rattle.spelling.specs.Fixed.{fixed_names, row_of}
 use Rattle.signs.specs.Kinds.{kind_in, spelled_words, numbers_of}

@@ -1,5 +1,5 @@
 -- What stands between words: a separator at a place, and the place after all of them. Assumes nothing: these are definitions.
-use Rattle.std.specs.Prelude.{◌≡◌, List, ℕ, ◌+◌, ◌-◌, ◌≤◌, length, drop}
+use Rattle.std.specs.Prelude.{◌≡◌, List, ℕ, ◌+◌, ◌≤◌, length, drop}
 use Rattle.language.specs.Words.{gap, after_gaps}
 
 pub record GapAt (text : List ℕ) (at r : ℕ) : Type 0 where

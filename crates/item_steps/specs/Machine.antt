@@ -1,7 +1,7 @@
 -- What the code of a plan's rules does, on lists. Assumes nothing: these are definitions.
 use Rattle.std.specs.Prelude.{Bool, true, false, List, [], ◌∷◌, ℕ, ◌+◌, ◌*◌, ◌^◌, eqb, ltb, get_or, set, replicate}
 use Rattle.language.specs.Values.{binary_value, unary_value, beside_of, copies_of, range_of, chosen}
-use Rattle.language.specs.Meaning.{Change, written}
+use Rattle.language.specs.Meaning.{Change}
 use Rattle.plan.specs.declared.Item.{Item}
 use Rattle.plan.specs.declared.Item.TheVariants.{Const, Port, Let, Cell, Range, Copies, Beside, Before, Between, Choice, Arm, Keep, Assign, Write, Bad}
 use Rattle.plan.specs.Items.{decode_all}

@@ -1,6 +1,6 @@
 -- The run of an item in the shape of the code: how many values it takes, which value it leaves, what it asks; and the writes of a cycle in a table of cells.
 -- Steps.antt of proofs/ proves it equal to Machine.antt's. Assumes nothing: these are definitions.
-use Rattle.std.specs.Prelude.{◌≡◌, Bool, true, false, ◌&&◌, List, [], ◌∷◌, ℕ, zero, suc, ◌+◌, ◌-◌, ◌*◌, ◌^◌, ◌≤◌, ◌<◌, eqb, length, get_or, take, drop}
+use Rattle.std.specs.Prelude.{◌≡◌, Bool, false, List, ◌∷◌, ℕ, ◌+◌, ◌-◌, ◌*◌, ◌^◌, ◌≤◌, ◌<◌, eqb, length, get_or, take, drop}
 use Rattle.language.specs.Values.{binary_value, unary_value, beside_of, copies_of, range_of, chosen}
 use Rattle.language.specs.Meaning.{Change, touched, twice, written}
 use Rattle.bits.specs.Fits.{BinaryFits, UnaryFits, CopiesFit}

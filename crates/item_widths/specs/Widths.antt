@@ -1,5 +1,5 @@
 -- The width that an item leaves, in the shape of the code. Assumes nothing: these are definitions.
-use Rattle.std.specs.Prelude.{Bool, true, false, ◌&&◌, List, ℕ, ◌+◌, ◌-◌, ◌*◌, ◌^◌, ◌≤◌, ◌<◌, max, eqb, leb, ltb, get_or}
+use Rattle.std.specs.Prelude.{Bool, true, false, ◌&&◌, List, ℕ, ◌+◌, ◌*◌, ◌^◌, ◌≤◌, ◌<◌, max, eqb, leb, ltb, get_or}
 use Rattle.language.specs.Limits.{limits}
 use Rattle.language.specs.Values.{binary_width, unary_width, range_width}
 use Rattle.plan.specs.declared.Item.{Item}

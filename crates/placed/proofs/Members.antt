@@ -33,6 +33,7 @@ module _ {A : Type 0} {x : A} where
 module _ {A B : Type 0} (f : A → List B) {y : B} where
   pub member_each : {x : A} {l : List A} → Member x l → Member y (f x) → Member y (each f l)
   unfolding each
+  member_each {l = []} m0 m = elim m0 [ ]
   member_each {l = z ∷ l} (here e) m = member_left (each f l) (subst (λ (w : A). Member y (f w)) e m)
   member_each {l = z ∷ l} (there n) m = member_right (f z) (member_each n m)
 

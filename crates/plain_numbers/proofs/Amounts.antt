@@ -6,15 +6,14 @@ use mathlib.Core.Logic.{◌⊎◌, inr, ⊎_elim}
 use Prim.Native.Nat.{ℕ, ◌+◌, ◌-◌, ◌*◌, ◌≤◌, ◌<◌}
 use native.Mathlib.Omega.{arith}
 use native.Mathlib.Numerals.{add-one}
-use lib.Dec.{leb, ltb}
+use lib.Dec.{ltb}
 use lib.ListN.{length, drop, get_or, drop_of_length-le}
 use lib.Seq.{drop-cons}
-use borrow.Author.Tests.{le-leb, lt-leb, lt-ltb, le-ltb, ltb-true, ltb-false, leb-true}
+use borrow.Author.Tests.{le-leb, lt-leb, lt-ltb, le-ltb, ltb-true, ltb-false}
 use Rattle.language.specs.Words.{span, digit, digit_of, value_in_base, number_next}
 use Rattle.signs.specs.Kinds.{numbers_of}
 use Rattle.plain_numbers.specs.Plain.{capped_of, number_item}
 use Rattle.signs.specs.Tells.{Tells, is_word, is_wrong}
-use Rattle.spelling.proofs.Laws.{both_left, both_right}
 use Rattle.spans.proofs.Spans.{worth_digit}
 
 -- equal, or both past the limit

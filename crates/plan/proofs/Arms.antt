@@ -4,34 +4,28 @@ use mathlib.Core.Bool.{Bool, true, false}
 use mathlib.Core.List.{List, [], ◌∷◌}
 use Prim.Native.Nat.{ℕ}
 use lib.Dec.{eqb}
-use types.Run.{OneOf, miss}
-use denote.Enum.Declared.{tag_of}
-use Rattle.plan.specs.contracts.Item as item
 use Rattle.plan.specs.declared.Item.{Item}
 use Rattle.plan.specs.declared.Item.TheVariants.{Const, Port, Let, Cell, Range, Copies, Beside, Before, Between, Choice, Arm, Keep, Assign, Write, Bad}
 use Rattle.plan.specs.Items.{unused}
 use Rattle.plan.specs.Items.{acts_of}
 
-abbrev leaving : List ℕ
-leaving = 0 ∷ 1 ∷ 2 ∷ 3 ∷ 4 ∷ 5 ∷ 6 ∷ 7 ∷ 8 ∷ 9 ∷ 10 ∷ 14 ∷ []
-
 -- all but Keep, Assign and Write
-pub leaves : (i : Item) → OneOf leaving (tag_of item.the_type_law i) → acts_of i ≡ false
-leaves (Const w lo hi) h = refl
-leaves (Port i) h = refl
-leaves (Let k) h = refl
-leaves (Cell m f n) h = refl
-leaves (Range i j) h = refl
-leaves (Copies n w) h = refl
-leaves (Beside w) h = refl
-leaves (Before u w) h = refl
-leaves (Between o m n) h = refl
-leaves Choice h = refl
-leaves (Arm n k) h = refl
-leaves (Keep k w) h = absurd (miss leaving 11 tt h)
-leaves (Assign p) h = absurd (miss leaving 12 tt h)
-leaves (Write m f n) h = absurd (miss leaving 13 tt h)
-leaves Bad h = refl
+pub leaves : (i : Item) → ((k w : ℕ) → i ≡ Keep k w → ⊥) → ((p : ℕ) → i ≡ Assign p → ⊥) → ((m f n : ℕ) → i ≡ Write m f n → ⊥) → acts_of i ≡ false
+leaves (Const w lo hi) h a w' = refl
+leaves (Port i) h a w = refl
+leaves (Let k) h a w = refl
+leaves (Cell m f n) h a w = refl
+leaves (Range i j) h a w = refl
+leaves (Copies n v) h a w = refl
+leaves (Beside v) h a w = refl
+leaves (Before u v) h a w = refl
+leaves (Between o m n) h a w = refl
+leaves Choice h a w = refl
+leaves (Arm n k) h a w = refl
+leaves (Keep k v) h a w = absurd (h k v refl)
+leaves (Assign p) h a w = absurd (a p refl)
+leaves (Write m f n) h a w = absurd (w m f n refl)
+leaves Bad h a w = refl
 
 -- ---- an item with an operand that is not used: it is the item, where it is not bad
 

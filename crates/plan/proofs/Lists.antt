@@ -1,16 +1,16 @@
 -- Tables of numbers: their items, the values that wait in them. Assumes nothing.
-use Prim.Native.Nat.{ℕ, zero, suc, ◌+◌, ◌-◌, ◌*◌, ◌/◌, ◌%◌, ◌^◌, ◌≤◌, ◌<◌, max}
-use mathlib.Core.Path.{◌≡◌, refl, sym, ap, ap₂, ◌∙◌, subst}
-use mathlib.Core.List.{List, [], ◌∷◌, ◌++◌}
-use mathlib.Core.Bool.{Bool, true, false, ◌&&◌}
+use Prim.Native.Nat.{ℕ, zero, suc, ◌+◌, ◌*◌, ◌%◌, ◌^◌, ◌≤◌, ◌<◌}
+use mathlib.Core.Path.{◌≡◌, refl, sym, ap, ap₂, ◌∙◌}
+use mathlib.Core.List.{List, [], ◌∷◌}
+use mathlib.Core.Bool.{Bool, true, false}
 use native.Mathlib.Numerals.{add-one}
-use native.Mathlib.Nat.{add-zero, lt_of_lt_of_le, one-mul, mod-eq_of_lt, div-eq_of_lt, mul-suc, add_assoc}
+use native.Mathlib.Nat.{add-zero, lt_of_lt_of_le, one-mul, mod-eq_of_lt, div-eq_of_lt, mul-suc}
 use native.Mathlib.Omega.{arith}
-use lib.ListN.{length, get_or, set, drop, take, length-drop, length-take, length-set, get_or-eq_default}
-use lib.Seq.{drop-drop, get_or-drop, get_or-set_same, get_or-set_other}
-use lib.Dec.{ltb, leb, eqb}
+use lib.ListN.{length, get_or, drop, take, length-drop, get_or-eq_default}
+use lib.Seq.{drop-drop, get_or-drop}
+use lib.Dec.{ltb}
 use lib.Pow.{pow-lt, pow_mono}
-use borrow.Author.Tests.{le-ltb, lt-ltb, le-leb, lt-leb, eq-eqb, ne_eqb}
+use borrow.Author.Tests.{lt-ltb, eq-eqb, ne_eqb}
 use Rattle.language.specs.Values.{bit_of}
 use Rattle.plan.specs.declared.Item.{Item}
 use Rattle.plan.specs.declared.Item.TheVariants.{Const, Port, Let, Cell, Range, Copies, Beside, Before, Between, Choice, Arm, Keep, Assign, Write, Bad}
@@ -18,7 +18,6 @@ use Rattle.plan.specs.Items.{encode, decode, decode_all, unary_item, unary_items
 use Rattle.plan.specs.Layout.{memories_from, memory_size_at, cells_before, groups_from, group_at, rules_before, rules_from, length_at, code_before}
 use Rattle.plan.specs.Items.{item_at}
 use Rattle.plan.specs.Layout.{sum_of}
-use Rattle.plan.specs.Waits.{top}
 
 -- ---- numbers past the last of a table
 

@@ -1,5 +1,5 @@
 -- Where the numbers of a plan stand: the form number, then five sections, each after its count (docs/PLAN.md). Assumes nothing: these are definitions.
-use Rattle.std.specs.Prelude.{List, [], ◌∷◌, ℕ, zero, suc, ◌+◌, ◌*◌, ◌/◌, ◌%◌, get_or, take, drop}
+use Rattle.std.specs.Prelude.{List, ℕ, zero, suc, ◌+◌, ◌*◌, get_or, take, drop}
 
 -- the greatest number of a plan, which has 32 bits
 abbrev pub greatest : ℕ

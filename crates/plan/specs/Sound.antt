@@ -1,5 +1,5 @@
 -- When a list of numbers is a sound plan. Assumes nothing: these are definitions.
-use Rattle.std.specs.Prelude.{Bool, true, false, not, ◌&&◌, List, [], ◌∷◌, ℕ, zero, suc, ◌+◌, ◌-◌, ◌*◌, ◌%◌, ◌^◌, max, eqb, leb, ltb, length, get_or, set, replicate}
+use Rattle.std.specs.Prelude.{Bool, true, false, ◌&&◌, List, [], ◌∷◌, ℕ, zero, suc, ◌+◌, ◌-◌, ◌*◌, ◌%◌, ◌^◌, max, eqb, leb, ltb, length, get_or, set, replicate}
 use Rattle.language.specs.Limits.{limits}
 use Rattle.language.specs.Values.{bit_of, binary_width, unary_width, range_width}
 use Rattle.plan.specs.declared.Item.{Item}

@@ -1,5 +1,5 @@
 -- The sections of a plan one by one; together they are `sections_ok`. Assumes nothing: these are definitions.
-use Rattle.std.specs.Prelude.{Bool, ◌&&◌, List, ℕ, ◌+◌, ◌-◌, eqb, leb, length}
+use Rattle.std.specs.Prelude.{Bool, ◌&&◌, List, ℕ, ◌+◌, eqb, leb, length}
 use Rattle.language.specs.Limits.{limits}
 use Rattle.plan.specs.Layout.{form, port_count, memory_count, group_count, rules_before, rule_count, code_before, code_from, code_count}
 use Rattle.plan.specs.Sound.{all_up_to, port_ok, memory_fits, group_ok, rule_ok}

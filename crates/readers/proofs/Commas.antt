@@ -5,7 +5,7 @@ use Prim.Native.Nat.{ℕ, ◌+◌, ◌*◌, ◌-◌, ◌≤◌, ◌<◌}
 use native.Mathlib.Omega.{arith}
 use lib.ListN.{drop}
 use Rattle.language.specs.Words.{Word}
-use Rattle.language.specs.Reader.{Res, on, commas_p}
+use Rattle.language.specs.Reader.{Res, commas_p}
 use Rattle.tape.specs.Tape.{flats}
 use Rattle.readers.specs.Marks.{count, kind_at, Marked}
 use Rattle.readers.specs.Meets.{Went, Agrees, read, Met}

@@ -278,11 +278,11 @@ p_inside w x e = mark_inside 1 5 w x e
 module _ {text : List ℕ} {ms : List (List ℕ)} {w : List ℕ} {ws : List Word} (M : Marked text ms w ws) {S : Type 0} (x : ℕ) (g : ℕ → List Word → Res S) (d : List Word → Res S) where
   pub on_type : the_type w x ≡ true → on (is_the "type") (drop x ws) g d ≡ g (place_at w x) (drop (x + 1) ws)
   unfolding the_type is_type
-  on_type e = on_the M "type" 2 6 M.the_type x g d e
+  on_type e = on_the M "type" 2 6 M.the_type_law x g d e
 
   pub off_type : the_type w x ≡ false → on (is_the "type") (drop x ws) g d ≡ d (drop x ws)
   unfolding the_type is_type
-  off_type e = off_the M "type" 2 6 M.the_type x g d e
+  off_type e = off_the M "type" 2 6 M.the_type_law x g d e
 
   pub on_p : the_p w x ≡ true → on (is_the "p") (drop x ws) g d ≡ g (place_at w x) (drop (x + 1) ws)
   unfolding the_p is_p

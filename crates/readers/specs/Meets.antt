@@ -3,7 +3,7 @@ use Rattle.std.specs.Prelude.{◌≡◌, Bool, List, ℕ, ◌+◌, ◌*◌, ◌-
 use Rattle.std.proofs.lemmas.List.Edits.{sets}
 use Rattle.tape.specs.Tape.{longest, most_items}
 use Rattle.language.specs.Words.{Word}
-use Rattle.language.specs.Reader.{Res, ok, bad, on, is}
+use Rattle.language.specs.Reader.{Res, ok, bad}
 use Rattle.language.specs.Parser.{arm_ends}
 use Rattle.readers.specs.Marks.{count, kind_at, Marked, level_of}
 use Rattle.readers.specs.declared.Out.{Out}

@@ -1,5 +1,5 @@
 -- The kinds of words, and the four numbers of a word: its kind, its place, its length in bytes, and a plain number's value. Assumes nothing: these are definitions.
-use Rattle.std.specs.Prelude.{◌≡◌, refl, true, false, List, [], ◌∷◌, ℕ, zero, suc, ◌+◌, ◌-◌, ◌*◌, length}
+use Rattle.std.specs.Prelude.{◌≡◌, refl, true, false, List, [], ◌∷◌, ℕ, zero, suc, ◌+◌, length}
 use Prim.Native.String.{String}
 use lib.Text.{eqt}
 use Rattle.language.specs.Words.{Word, num, name, digits, fixed, bytes}

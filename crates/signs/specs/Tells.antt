@@ -1,5 +1,5 @@
 -- What the reader of a word promises. Assumes nothing: these are definitions.
-use Rattle.std.specs.Prelude.{◌≡◌, List, [], ◌∷◌, ℕ, ◌+◌, ◌-◌, ◌≤◌, ◌<◌, length}
+use Rattle.std.specs.Prelude.{◌≡◌, List, [], ◌∷◌, ℕ, ◌+◌, ◌≤◌, ◌<◌, length}
 use Rattle.language.specs.Words.{Word, Next, over, apart, word, wrong}
 use Rattle.signs.specs.Kinds.{numbers_of}
 use Rattle.signs.specs.declared.Item.{Item}

@@ -10,7 +10,7 @@ use lib.Dec.{ltb, eqb}
 use lib.ListN.{length, drop, get_or, drop_of_length-le, get_or-eq_default}
 use lib.Seq.{drop-cons}
 use borrow.Author.Tests.{lt-ltb, le-ltb, ltb-true, ltb-false, ne_eqb}
-use Rattle.language.specs.Words.{span, plain_byte, digit_of, digit_in, base_of, one_of, some_of, bytes, value_in_base, digit, letter, digits}
+use Rattle.language.specs.Words.{span, plain_byte, digit_of, digit_in, base_of, one_of, some_of, bytes, value_in_base}
 use Rattle.spelling.proofs.Laws.{both_left, both_right, never}
 use Rattle.sized_constants.specs.Constant.{amount_of, constant_at}
 use Rattle.sized_constants.specs.declared.Amount.{Amount}

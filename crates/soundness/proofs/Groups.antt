@@ -4,7 +4,6 @@ use mathlib.Core.Path.{◌≡◌, sym, ap, ◌∙◌}
 use mathlib.Core.List.{List}
 use mathlib.Core.Bool.{Bool, true, false}
 use native.Mathlib.Omega.{arith}
-use borrow.Author.Tests.{lt-ltb, le-ltb}
 use Rattle.language.specs.Values.{or_of}
 use Rattle.plan.specs.Layout.{group_count, group_at, rules_before}
 use Rattle.plan.specs.Sound.{sections_ok, Ended, ended, unended, rule_check, joined, group_check, groups_check, sound_of}

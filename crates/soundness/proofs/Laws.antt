@@ -14,7 +14,7 @@ use Rattle.language.specs.Limits.{limits}
 use Rattle.plan.specs.declared.Item.{Item}
 use Rattle.plan.specs.declared.Item.TheVariants.{Const, Port, Let, Cell, Range, Copies, Beside, Before, Between, Choice, Arm, Keep, Assign, Write, Bad}
 use Rattle.plan.specs.Layout.{port_count, port_at, memory_width_at}
-use Rattle.plan.specs.Sound.{Check, check, broken, Rules, push, test, check1, input_ok, output_ok, memory_ok, slot_width, keepable, unset, waiting, take1, take2}
+use Rattle.plan.specs.Sound.{Check, check, broken, Rules, push, test, check1, input_ok, output_ok, memory_ok, slot_width, keepable, waiting, take1, take2}
 use Rattle.plan.specs.Sound.{rules_of}
 use Rattle.item_widths.specs.Widths.{width_if, width_of}
 use Rattle.soundness.specs.Steps.{push_over}

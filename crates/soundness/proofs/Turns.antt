@@ -1,15 +1,12 @@
 -- The turns of the loops over code, on lists. Assumes nothing.
-use Prim.Native.Nat.{ℕ, zero, suc, ◌+◌, ◌-◌, ◌*◌, ◌/◌, ◌%◌, ◌^◌, ◌≤◌, ◌<◌}
-use mathlib.Core.Path.{◌≡◌, refl, sym, ap, ap₂, ◌∙◌}
+use Prim.Native.Nat.{ℕ, zero, suc, ◌+◌, ◌-◌, ◌*◌, ◌≤◌, ◌<◌}
+use mathlib.Core.Path.{◌≡◌, refl, ◌∙◌}
 use mathlib.Core.List.{List, [], ◌∷◌}
-use mathlib.Core.Bool.{Bool, true, false}
 use native.Mathlib.Omega.{arith}
-use lib.ListN.{length, get_or, take, drop, replicate}
-use lib.Dec.{eqb, leb, ltb}
-use borrow.Author.Tests.{lt-ltb}
+use lib.ListN.{length, take, drop}
 use Rattle.plan.specs.declared.Item.{Item}
 use Rattle.plan.specs.Items.{decode_all}
-use Rattle.plan.specs.Sound.{Check, check, broken, Rules, check1, check_step, check_all, Ended, ended, unended, end_of}
+use Rattle.plan.specs.Sound.{Check, check, broken, Rules, check1, check_step, check_all, ended, unended, end_of}
 use Rattle.plan.specs.Items.{item_at}
 use Rattle.plan.specs.Waits.{top}
 use Rattle.plan.proofs.Lists.{item_next}

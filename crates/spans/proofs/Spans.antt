@@ -1,6 +1,6 @@
 -- Laws of bytes, their spans and parts, each at a place of a text. Assumes nothing.
 use mathlib.Core.Path.{◌≡◌, refl, sym, ap, ◌∙◌}
-use mathlib.Core.Bool.{Bool, true, false, not, ◌&&◌}
+use mathlib.Core.Bool.{Bool, true, false, ◌&&◌}
 use mathlib.Core.List.{List, [], ◌∷◌}
 use Prim.Native.Nat.{ℕ, zero, suc, ◌+◌, ◌-◌, ◌≤◌, ◌<◌}
 use native.Mathlib.Omega.{arith}
@@ -9,7 +9,7 @@ use lib.Dec.{leb, ltb, eqb}
 use lib.ListN.{length, take, drop, get_or, drop_of_length-le, length-drop}
 use lib.Seq.{drop-cons, take-nil, take_all}
 use borrow.Author.Tests.{le-leb, lt-leb, eq-eqb, ne_eqb, leb-true, leb-false}
-use Rattle.language.specs.Words.{bytes, begins, span, digit, letter, plain_byte, name_byte, digit_of, digit_in}
+use Rattle.language.specs.Words.{begins, span, plain_byte, name_byte, digit_of, digit_in}
 use Rattle.spelling.proofs.Laws.{under, above, is_neither, never}
 use Rattle.spans.specs.Spans.{test_of}
 

@@ -1,5 +1,5 @@
 -- The classes of bytes that a span runs over. Assumes nothing: these are definitions.
-use Rattle.std.specs.Prelude.{Bool, not, ℕ, zero, suc, ◌-◌, eqb}
+use Rattle.std.specs.Prelude.{Bool, not, ℕ, zero, suc, eqb}
 use Rattle.language.specs.Words.{name_byte, digit_in}
 
 -- the classes of bytes: 0 what stands in a line, 1 what stands in a name, else the digits of a base

@@ -7,13 +7,12 @@ use Prim.Native.Nat.{ℕ, zero, suc, ◌+◌, ◌-◌, ◌*◌, ◌≤◌, ◌<�
 use Prim.Native.String.{String}
 use native.Mathlib.Omega.{arith}
 use native.Mathlib.Nat.{not-suc-le-zero, le_of_suc-le-suc}
-use native.Mathlib.Numerals.{add-one, add-two}
 use lib.Dec.{leb, ltb, eqb, T}
 use lib.Text.{eqt, eqt→eq}
 use borrow.Author.Tests.{eqb-true, eqb-false, leb-true, leb-false, ltb-true}
 use lib.ListN.{length, take, drop, get_or}
-use Rattle.language.specs.Text.{Name, same, among}
-use Rattle.language.specs.Words.{Word, num, name, digits, fixed, Numeral, Next, over, apart, word, wrong, bytes, spellings, begins, span, digit, name_byte, digit_in, gap, base_of, value_in_base, named_next, own_name, number_next, name_next, quote_next, first_of_law, left_out_law, keywords, signs, sign_next, next, Lexed, words, bad_at, push, words_from, words_of, left_out}
+use Rattle.language.specs.Text.{same, among}
+use Rattle.language.specs.Words.{Word, num, name, digits, fixed, Next, over, apart, word, wrong, bytes, spellings, begins, span, digit, name_byte, digit_in, gap, base_of, value_in_base, named_next, own_name, number_next, name_next, quote_next, first_of_law, left_out_law, keywords, signs, sign_next, next, Lexed, words, bad_at, push, words_from, words_of, left_out}
 use Rattle.spelling.proofs.Laws.{all_below, below_all, never, both_left, both_right}
 use Rattle.signs.specs.Kinds.{numbers_of, kind_in, spelled_words}
 use Rattle.words.specs.Table.{table_of, word_of, word_at}

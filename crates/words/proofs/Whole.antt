@@ -1,15 +1,14 @@
 -- Laws of the whole text: the words read so far, their table, and what is answered. Assumes nothing.
 use mathlib.Core.Path.{◌≡◌, refl, sym, ap, ◌∙◌}
-use mathlib.Core.Bool.{Bool, true, false, ◌&&◌}
+use mathlib.Core.Bool.{true, false}
 use mathlib.Core.List.{List, [], ◌∷◌, ◌++◌, append_assoc, append-nil}
 use mathlib.Core.Option.{Option, none, some}
-use Prim.Native.Nat.{ℕ, zero, suc, ◌+◌, ◌-◌, ◌*◌, ◌≤◌, ◌<◌, min}
+use Prim.Native.Nat.{ℕ, suc, ◌+◌, ◌-◌, ◌*◌, ◌≤◌, ◌<◌, min}
 use native.Mathlib.Omega.{arith}
 use native.Mathlib.Nat.{add-zero, add-suc, suc-add}
-use lib.Dec.{leb}
 use borrow.Author.Tests.{le-leb, lt-leb}
 use lib.ListN.{length, drop, get_or, set, length-append}
-use lib.Seq.{sets, drop-drop, length-sets}
+use lib.Seq.{sets, drop-drop}
 use Rattle.language.specs.Text.{earliest}
 use Rattle.language.specs.Words.{Word, num, name, digits, fixed, Next, over, apart, word, wrong, next, Lexed, words, bad_at, push, words_from, words_of}
 use Rattle.signs.specs.Kinds.{numbers_of}
@@ -21,7 +20,6 @@ use Rattle.signs.specs.declared.Item.TheVariants.{Word as IsWord, Wrong, Apart, 
 use Rattle.words.specs.declared.Found.TheVariants.{Words, Bad, NoRoom}
 use Rattle.words.specs.declared.Place.{Place}
 use Rattle.words.specs.declared.Place.TheVariants.{At, Nowhere}
-use Rattle.spelling.proofs.Laws.{never}
 
 -- ---- what an answer tells
 

@@ -1,0 +1,10 @@
+-- `code_count` meets its contract. Assumes nothing.
+use Prim.Native.Nat.{ℕ}
+use mathlib.Core.Path.{ap, ◌∙◌}
+use lib.ListN.{get_or}
+use Rattle.plan.specs.Layout.{code_count}
+use Rattle.plan.proofs.layout.code_count.Goals as goal
+
+pub returns : goal.returns
+unfolding code_count
+returns c = c.number.ensures ∙ ap (λ (n : ℕ). get_or c.args.plan.now n 0) c.code_from.ensures.0

@@ -1,0 +1,10 @@
+-- `memory_size` meets its contract. Assumes nothing.
+use Prim.Native.Nat.{ℕ, ◌+◌, ◌*◌}
+use mathlib.Core.Path.{ap₂, ◌∙◌}
+use lib.ListN.{get_or}
+use Rattle.plan.specs.Layout.{memory_size_at}
+use Rattle.plan.proofs.layout.memory_size.Goals as goal
+
+pub returns : goal.returns
+unfolding memory_size_at
+returns c = c.number.ensures ∙ ap₂ (λ (n m : ℕ). get_or c.args.plan.now (n + 2 + 2 * m) 0) c.memories_from.ensures.0 c.place.ensures.0

@@ -1,0 +1,49 @@
+-- `assign` meets its contract. Assumes nothing.
+use native.Mathlib.Omega.{arith}
+use Prim.Native.Nat.{◌-◌, ◌<◌}
+use mathlib.Core.Path.{sym, ◌∙◌}
+use Rattle.plan.specs.Sound.{rules_of}
+use Rattle.soundness.proofs.Wides.{wide_less}
+use Rattle.soundness.proofs.Laws.{assign_few, assign_yes, assign_no, mask_more, output_facts}
+use Rattle.soundness.proofs.steps.assign.Goals as goal
+
+pub returns-then-n-lt1 : goal.returns-then-n-lt1
+returns-then-n-lt1 c =
+    let a = c.args in
+    let t = rules_of a.plan.now a.present a.taken in
+    λ ls. record { stands = λ s f. tt; same = λ s e. assign_few t s a.n ls a.assigned a.p c.if-n-lt1.true }
+
+pub power-requires : goal.power-requires
+power-requires c =
+    let a = c.args in
+    let f = output_facts (rules_of a.plan.now a.present a.taken) a.assigned a.p a.x (sym c.output_ok.ensures ∙ c.if-output_ok.true) in
+    omega arith
+
+pub overflow_add-result : goal.overflow_add-result
+overflow_add-result c =
+    let a = c.args in
+    let f = output_facts (rules_of a.plan.now a.present a.taken) a.assigned a.p a.x (sym c.output_ok.ensures ∙ c.if-output_ok.true) in
+    let g = mask_more a.assigned a.p c.requires.1 (omega arith) f.1 in
+    omega (arith, c.power.ensures)
+
+pub returns-then-output_ok : goal.returns-then-output_ok
+returns-then-output_ok c =
+    let a = c.args in
+    let t = rules_of a.plan.now a.present a.taken in
+    let b = sym c.output_ok.ensures ∙ c.if-output_ok.true in
+    let f = output_facts t a.assigned a.p a.x b in
+    let l : a.p < 16 = omega arith in
+    λ ls. record {
+      stands = λ s g. record {
+        few = omega (arith, g.few);
+        mask = rw c.power.ensures (mask_more a.assigned a.p c.requires.1 l f.1);
+        wide = wide_less s a.n (a.n - 1) (omega arith) g.wide;
+      };
+      same = λ s e. rw c.power.ensures (assign_yes t s a.n ls a.assigned a.p a.x c.if-n-lt1.false e b);
+    }
+
+pub returns-else-output_ok : goal.returns-else-output_ok
+returns-else-output_ok c =
+    let a = c.args in
+    let t = rules_of a.plan.now a.present a.taken in
+    λ ls. record { stands = λ s f. tt; same = λ s e. assign_no t s a.n ls a.assigned a.p a.x c.if-n-lt1.false e (sym c.output_ok.ensures ∙ c.if-output_ok.false) }

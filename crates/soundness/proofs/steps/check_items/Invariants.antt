@@ -1,0 +1,20 @@
+-- `check_items` meets its contract: midway, what is left of the items leads to the end of all. Assumes nothing.
+use Prim.Native.Nat.{◌+◌, ◌-◌, ◌*◌, ◌≤◌}
+use mathlib.Core.Path.{◌≡◌}
+use mathlib.Core.List.{[]}
+use lib.ListN.{length, take, drop}
+use Rattle.plan.specs.Items.{decode_all}
+use Rattle.plan.specs.Sound.{check, check_all, rules_of, slots, waiting}
+use Rattle.plan.specs.Waits.{top}
+use Rattle.soundness.specs.Steps.{Standing}
+use Rattle.soundness.proofs.Turns.{rest}
+use Rattle.soundness.proofs.steps.check_items.Given as goal
+
+abbrev pub invariant-loop-i : goal.invariant-loop-i
+invariant-loop-i l =
+    (l.i ≤ l.items) × (l.at ≡ l.from + 4 * l.i) × (length l.ws ≡ waiting) × (length l.ls ≡ slots) × Standing l.ws l.n l.assigned
+    × (check_all (rules_of l.plan l.present l.taken) (rest l.plan l.at l.items l.i) (check (top l.ws l.n) l.ls l.assigned)
+    ≡ check_all (rules_of l.plan l.present l.taken) (decode_all (take (4 * l.items) (drop l.from l.plan))) (check [] l.initial.ls 0))
+
+abbrev pub decreases-loop-i : goal.decreases-loop-i
+decreases-loop-i l = l.items - l.i
