@@ -1,5 +1,5 @@
 -- A rule of a sound plan that fires can be run: it was checked, and what it reads fits. Assumes nothing.
-use Prim.Native.Nat.{ℕ, zero, suc, ◌+◌, ◌-◌, ◌*◌, ◌%◌, ◌^◌, ◌≤◌, ◌<◌}
+use Prim.Native.Nat.{ℕ, zero, suc, ◌+◌, ◌^◌, ◌≤◌, ◌<◌}
 use mathlib.Core.Path.{◌≡◌, refl, sym, ap, ap₂, ◌∙◌, subst}
 use mathlib.Core.List.{List, [], ◌∷◌}
 use mathlib.Core.Bool.{Bool, true, false, ◌&&◌, ◌||◌, false≢true}
@@ -9,9 +9,9 @@ use lib.ListN.{length, get_or, take}
 use lib.Seq.{get_or-take}
 use borrow.Author.Tests.{ltb-true, leb-true, eqb-true, eqb-false, ne_eqb, lt-leb}
 use Rattle.language.specs.Limits.{limits}
-use Rattle.language.specs.Values.{bit_of, or_of}
+use Rattle.language.specs.Values.{bit_of}
 use Rattle.plan.specs.Items.{decode_all}
-use Rattle.plan.specs.Layout.{port_count, port_at, memory_count, memory_width_at, memory_size_at, cells_before, group_count, group_at, rules_before, rule_count, present_at, absent_at, code_at}
+use Rattle.plan.specs.Layout.{port_count, port_at, memory_count, memory_width_at, memory_size_at, cells_before, group_count, group_at, rules_before, present_at, absent_at, code_at}
 use Rattle.plan.specs.Sound.{input_ok, memory_ok, sections_ok, Ended, ended, unended, rule_check, joined, group_check, groups_check, sound_of}
 use Rattle.plan.specs.Sound.{rules_of}
 use Rattle.plan.proofs.Tests.{and_left, and_right}

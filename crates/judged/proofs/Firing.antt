@@ -1,15 +1,15 @@
 -- The groups in turn, on lists. Assumes nothing.
 use Prim.Native.Nat.{ℕ, zero, suc, ◌+◌, ◌-◌, ◌^◌, ◌≤◌, ◌<◌}
-use mathlib.Core.Path.{◌≡◌, refl, sym, ap, ap₂, ◌∙◌, subst}
+use mathlib.Core.Path.{◌≡◌, refl, sym, ap, ap₂, ◌∙◌}
 use mathlib.Core.List.{List, [], ◌∷◌, ◌++◌, append_assoc, append-nil}
 use mathlib.Core.Bool.{Bool, true, false, not, ◌&&◌, ◌||◌, and_comm, and_assoc}
 use native.Mathlib.Numerals.{add-one}
 use native.Mathlib.Omega.{arith}
-use lib.Dec.{eqb, leb, ltb}
-use lib.ListN.{length, get_or, set, take}
+use lib.Dec.{eqb, ltb}
+use lib.ListN.{length, set, take}
 use lib.Bits.{bit_or, or_lt, or_add_and, and_le_l, and_le_r}
 use lib.Seq.{take-suc-set}
-use borrow.Author.Tests.{eq-eqb, ne_eqb, eqb-true, eqb-false, lt-ltb, le-ltb, ltb-true, ltb-false}
+use borrow.Author.Tests.{eqb-true, eqb-false, lt-ltb, le-ltb, ltb-true, ltb-false}
 use Rattle.language.specs.Values.{bit_of}
 use Rattle.bits.specs.Masks.{bit_matches, matches_in}
 use Rattle.bits.specs.Masks.{matches_of as masks_matches_of}
@@ -19,7 +19,6 @@ use Rattle.judged.specs.Groups.{bits_agree, matches_of, matching, Fired, fired, 
 use Rattle.judged.specs.Tests.{all_below}
 use Rattle.judged.specs.declared.Answer.{Answer}
 use Rattle.judged.specs.declared.Answer.TheVariants.{Unmatched, Ambiguous}
-use Rattle.judged.specs.declared.groups.Match.{Match}
 use Rattle.judged.specs.declared.groups.Match.TheVariants.{Rule, Refused}
 use Rattle.judged.specs.Answers.{number_of}
 use Rattle.judged.specs.Judged.{only_of}

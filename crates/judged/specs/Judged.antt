@@ -1,7 +1,6 @@
 -- What is known of a cycle before anything is run, in the shape of the code. Assumes nothing: these are definitions.
 use Rattle.std.specs.Prelude.{true, false, List, [], ◌∷◌, ℕ, take}
 use Rattle.plan.specs.Layout.{group_count}
-use Rattle.judged.specs.declared.Answer.{Answer}
 use Rattle.judged.specs.declared.Answer.TheVariants.{Unfit, Unmatched, Ambiguous}
 use Rattle.judged.specs.declared.groups.Match.{Match}
 use Rattle.judged.specs.declared.groups.Match.TheVariants.{Rule, Refused}

@@ -1,20 +1,17 @@
 -- The rules that fire, on lists. Assumes nothing.
-use Prim.Native.Nat.{ℕ, zero, suc, ◌+◌, ◌-◌, ◌*◌, ◌/◌, ◌%◌, ◌^◌, ◌≤◌, ◌<◌}
-use mathlib.Core.Path.{◌≡◌, refl, sym, ap, ap₂, ◌∙◌, subst}
+use Prim.Native.Nat.{ℕ, zero, suc, ◌+◌, ◌-◌, ◌*◌, ◌/◌, ◌%◌, ◌≤◌, ◌<◌}
+use mathlib.Core.Path.{◌≡◌, refl, ap, ap₂, ◌∙◌, subst}
 use mathlib.Core.List.{List, [], ◌∷◌, ◌++◌}
-use mathlib.Core.Bool.{Bool, true, false}
+use mathlib.Core.Bool.{Bool}
 use native.Mathlib.Numerals.{add-one}
 use native.Mathlib.Omega.{arith}
 use lib.ListN.{length, get_or, take, drop, replicate, length-replicate, drop_of_length-le}
 use lib.Seq.{drop-cons, length-take-le, get_or-take, take_at}
-use Rattle.language.specs.Meaning.{Change}
 use Rattle.plan.specs.Items.{decode_all}
 use Rattle.plan.specs.Layout.{port_count, group_count, present_at, length_at, code_before, code_from, code_at}
-use Rattle.plan.specs.Sound.{check, end_of, ended, check_all, rule_check, slots, unset}
-use Rattle.plan.specs.Sound.{rules_of}
-use Rattle.item_steps.specs.Machine.{State, state, exec_all, exec_rules}
-use Rattle.item_steps.specs.Ready.{Buffered}
-use Rattle.machine.specs.Safety.{Good, SlotsFit, CodeGiven, StateHeld, Safe, Ran}
+use Rattle.plan.specs.Sound.{rule_check, unset}
+use Rattle.item_steps.specs.Machine.{State, state, exec_rules}
+use Rattle.machine.specs.Safety.{Safe, Ran}
 use Rattle.machine.specs.Fires.{Fires, rule_run, fired_run}
 use Rattle.machine.proofs.Safe.{slots_start}
 

@@ -1,25 +1,22 @@
 -- A sound rule never goes wrong: what the check says of the widths holds of the values, and each item finds what it asks. Assumes nothing.
 use Prim.Native.Nat.{ℕ, zero, suc, ◌+◌, ◌-◌, ◌*◌, ◌^◌, ◌≤◌, ◌<◌, max}
-use mathlib.Core.Path.{◌≡◌, refl, sym, ap, ap₂, ◌∙◌, subst}
+use mathlib.Core.Path.{◌≡◌, refl, sym, ap, ◌∙◌, subst}
 use mathlib.Core.List.{List, [], ◌∷◌}
-use mathlib.Core.Bool.{Bool, true, false, ◌&&◌, false≢true}
+use mathlib.Core.Bool.{Bool, true, false, ◌&&◌}
 use native.Mathlib.Omega.{arith}
-use native.Mathlib.Decide.{dec_lt}
 use lib.Dec.{eqb, leb, ltb, lit<}
-use lib.ListN.{length, get_or, set, drop, length-drop, length-set, replicate, length-replicate, get_or-eq_default}
+use lib.ListN.{length, get_or, set, drop, length-drop, length-set, replicate, length-replicate}
 use lib.Seq.{get_or-set_same, get_or-set_other}
 use lib.Pow.{pow_pos}
 use borrow.Author.Tests.{ltb-true, ltb-false, leb-true, eqb-true, eqb-false}
 use Rattle.language.specs.Meaning.{Change}
-use Rattle.language.specs.Values.{bit_of}
 use Rattle.bits.proofs.Laws.{wider_lt}
 use Rattle.ranges.proofs.Fits.{binary_fits, unary_fits, beside_fits, beside_within, copies_fits, range_fits, chosen_fits}
 use Rattle.plan.specs.declared.Item.{Item}
 use Rattle.plan.specs.declared.Item.TheVariants.{Const, Port, Let, Cell, Range, Copies, Beside, Before, Between, Choice, Arm, Keep, Assign, Write, Bad}
-use Rattle.plan.specs.Layout.{port_count, port_at, memory_width_at}
-use Rattle.plan.specs.Sound.{Check, check, broken, Rules, push, test, check1, check_all, end_of, Ended, ended, unended, input_ok, output_ok, memory_ok, slot_width, keepable, unset}
+use Rattle.plan.specs.Layout.{port_at, memory_width_at}
+use Rattle.plan.specs.Sound.{Check, check, broken, Rules, push, test, check1, end_of, ended, unended, input_ok, output_ok, memory_ok, slot_width, keepable, unset}
 use Rattle.plan.specs.Sound.{rules_of}
-use Rattle.plan.specs.Waits.{top}
 use Rattle.plan.specs.Items.{takes_of, acts_of}
 use Rattle.item_widths.specs.Widths.{width_if, width_of}
 use Rattle.item_widths.specs.declared.Width.{Width}
@@ -29,7 +26,7 @@ use Rattle.plan.proofs.Tests.{and_left, and_right}
 use Rattle.soundness.proofs.Laws.{pushes, output_facts}
 use Rattle.item_widths.proofs.Laws.{keepable_there}
 use Rattle.soundness.proofs.Turns.{check_broken}
-use Rattle.item_steps.specs.Machine.{State, state, cell_of, pick, write_to, exec1}
+use Rattle.item_steps.specs.Machine.{State, state, cell_of, pick, exec1}
 use Rattle.item_steps.specs.Ready.{value_of, Asks}
 use Rattle.machine.specs.Safety.{Good, Fit, SlotsFit, CodeGiven, StateHeld, Safe}
 use Rattle.item_steps.proofs.Leaves.{leave}

@@ -1,23 +1,21 @@
 -- The turns of the loop over a rule's items, on lists. Assumes nothing.
-use Prim.Native.Nat.{ℕ, zero, suc, ◌+◌, ◌-◌, ◌*◌, ◌^◌, ◌≤◌, ◌<◌}
-use mathlib.Core.Path.{◌≡◌, refl, sym, ap, ap₂, ◌∙◌, subst}
-use mathlib.Core.List.{List, [], ◌∷◌}
-use mathlib.Core.Bool.{Bool, true, false}
-use native.Mathlib.Omega.{arith}
-use lib.ListN.{length, get_or, take, drop, replicate}
+use Prim.Native.Nat.{ℕ, ◌+◌, ◌-◌, ◌*◌, ◌≤◌, ◌<◌}
+use mathlib.Core.Path.{◌≡◌, sym, ap, ◌∙◌, subst}
+use mathlib.Core.List.{List}
+use mathlib.Core.Bool.{Bool}
+use lib.ListN.{length}
 use Rattle.language.specs.Meaning.{Change}
 use Rattle.plan.specs.declared.Item.{Item}
 use Rattle.plan.specs.declared.Item.TheVariants.{Bad}
-use Rattle.plan.specs.Items.{decode_all}
 use Rattle.plan.specs.Sound.{Rules, check, check1, check_step, check_all}
 use Rattle.plan.specs.Sound.{rules_of}
-use Rattle.plan.specs.Items.{item_at, takes_of}
+use Rattle.plan.specs.Items.{item_at}
 use Rattle.plan.specs.Waits.{top}
 use Rattle.soundness.proofs.Turns.{rest, rest_next, rest_none}
 use Rattle.plan.proofs.Waits.{length_top}
 use Rattle.item_steps.specs.Machine.{State, state, exec1, exec_all}
-use Rattle.item_steps.specs.Ready.{Asks, Ready, Buffered, Left}
-use Rattle.machine.specs.Safety.{Good, CodeGiven, StateHeld, Safe, Ran}
+use Rattle.item_steps.specs.Ready.{Ready, Left}
+use Rattle.machine.specs.Safety.{Good, CodeGiven, Safe, Ran}
 use Rattle.machine.proofs.Safe.{Found, found}
 
 -- a state is safe whatever was written
