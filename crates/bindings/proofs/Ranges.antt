@@ -26,9 +26,9 @@ holds_after P Q (lost r) g h f = tt
 holds_byte : {T : Type 0} (Q : T → Type 0) (c : ℕ) (x : List ℕ) (g : List ℕ → Got T) → ((r : List ℕ) → Holds Q (g r)) → Holds Q (byte c x g)
 unfolding byte
 holds_byte Q c [] g f = tt
-holds_byte Q c (b ∷ x) g f = go (eqb c b)
+holds_byte {T = T} Q c (b ∷ x) g f = go (eqb c b)
   where
-    go : (y : Bool) → Holds Q (elim y as (λ (z : Bool). Got _) [ true ↦ g x | false ↦ lost (b ∷ x) ])
+    go : (y : Bool) → Holds Q (elim y as (λ (z : Bool). Got T) [ true ↦ g x | false ↦ lost (b ∷ x) ])
     go true = f x
     go false = tt
 

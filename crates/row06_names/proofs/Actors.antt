@@ -123,7 +123,7 @@ module _ (text : List ℕ) (all : Seen) where
   ports_does sg dc ip op tk [] h = none
   ports_does sg dc ip op tk (p ∷ ps) h =
       both (both (decl_does _ p.type h.0.type) (single _ _ _ (ap (λ (l : List ℕ). not (among all.signed l) || among tk l) (sym h.0.called)) (port_next text sg dc ip op tk p h.0.called)))
-      (ports_does sg _ _ _ _ ps h.1)
+      (ports_does sg (p.called.spelled ∷ dc) (add p.input p.called.spelled ip) (add (not p.input) p.called.spelled op) (p.called.spelled ∷ tk) ps h.1)
 
   pub actor_does : (a : Actor) → PlacedActor text a → DoesAll text all nothing (flat_actor a) (actor_f all a) (final a)
   unfolding flat_actor actor_f test next hit add reset when

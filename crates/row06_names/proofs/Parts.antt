@@ -1,6 +1,6 @@
 -- What the walk does on each part of an actor: its faulty places, in the order of the tape, and the names that it adds. Assumes nothing.
-use mathlib.Core.Path.{◌≡◌, refl, sym, ap, ◌∙◌}
-use mathlib.Core.Bool.{Bool, not, ◌||◌}
+use mathlib.Core.Path.{refl, sym, ap, ◌∙◌}
+use mathlib.Core.Bool.{not, ◌||◌}
 use mathlib.Core.List.{List, [], ◌∷◌, ◌++◌, append_assoc, append-nil}
 use Prim.Native.Nat.{ℕ}
 use Rattle.language.specs.Text.{Name, among}
@@ -16,7 +16,7 @@ use Rattle.tape.specs.Walk.{hit, add}
 use Rattle.row06_names.specs.Walk.{Seen, test}
 use Rattle.tape.proofs.Does.{Does, told, both, single, ends}
 use Rattle.tape.proofs.Seens.{reset}
-use Rattle.placed.proofs.Same.{pushed, some_onto, inputs_onto, outputs_onto}
+use Rattle.placed.proofs.Same.{pushed}
 use Rattle.row06_names.proofs.Seens.{next}
 
 -- ---- the faulty places, in the order of the tape

@@ -1,12 +1,12 @@
 -- The names met, item after item, and that they are those by index. Assumes nothing.
 use mathlib.Core.Path.{◌≡◌}
 use mathlib.Core.List.{List, []}
-use Prim.Native.Nat.{ℕ, suc, ◌≤◌}
+use Prim.Native.Nat.{ℕ, suc}
 use native.Mathlib.Omega.{arith}
 use lib.Dec.{eqb}
 use Rattle.placed.specs.Placed.{name_from}
 use Rattle.tape.specs.Tape.{END, RULED}
-use Rattle.tape.specs.Walk.{op_at, place_at, value_at, hit, add, between, after}
+use Rattle.tape.specs.Walk.{op_at, place_at, value_at, hit, add, after}
 use Rattle.tape.specs.declared.Class.TheVariants.{Signed, Declared, Input, Output, Taken, Present, Val}
 use Rattle.tape.proofs.Seens.{reset, more, more_since}
 use Rattle.row06_names.specs.Walk.{Seen, seen_at}

@@ -1,6 +1,6 @@
 -- The test of an item, by its operation. Assumes nothing.
 use mathlib.Core.Path.{◌≡◌, sym}
-use mathlib.Core.Bool.{Bool, true, false, not, ◌||◌}
+use mathlib.Core.Bool.{Bool, false, not, ◌||◌}
 use mathlib.Core.List.{List}
 use Prim.Native.Nat.{ℕ}
 use borrow.Author.Tests.{ne_eqb}

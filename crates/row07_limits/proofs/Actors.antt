@@ -2,7 +2,7 @@
 use mathlib.Core.Path.{◌≡◌, refl, sym, ap, ap₂, ◌∙◌, subst}
 use mathlib.Core.Bool.{Bool, true, false}
 use mathlib.Core.List.{List, [], ◌∷◌, ◌++◌, append_assoc, append-nil}
-use Prim.Native.Nat.{ℕ, zero, suc, ◌+◌, ◌-◌}
+use Prim.Native.Nat.{ℕ, zero, suc, ◌-◌}
 use native.Mathlib.Omega.{arith}
 use lib.Dec.{eqb}
 use lib.ListN.{length, drop, length-append}
@@ -13,7 +13,7 @@ use Rattle.language.specs.Names.{when}
 use Rattle.language.specs.Parts.{each, Item, items, declared_items, assigned, wholes, val_items}
 use Rattle.language.specs.Counts.{too_many, val_names}
 use Rattle.language.specs.Tree.{Ty, number, environment, port, plus, minus, log, ceil, floor, most, entry, within, Expr}
-use Rattle.language.specs.Tree.{Declared, untyped, cells, Entry, Val, Assignment, assign, write, Statement, alone, scoped, Rule, Group}
+use Rattle.language.specs.Tree.{Declared, untyped, Entry, Val, Assignment, assign, write, Statement, alone, scoped, Rule, Group}
 use Rattle.tape.specs.Tape.{item, LET, END, RULE, RULED, OR, GROUPED, flat_d, is_typed, flat_val, flat_assignment, flats, flat_statement, flat_entry, flat_rule, flat_group}
 use Rattle.placed.proofs.Every.{each_append}
 use Rattle.placed.proofs.Same.{Same, is, equal, then, split_each, each_each}

@@ -12,7 +12,7 @@ use Rattle.language.specs.Parts.{each, Item, reads, items, breadth_items, amount
 use Rattle.language.specs.Counts.{type_words, expr_words}
 use Rattle.language.specs.Tree.{Ty, number, environment, port, plus, minus, log, ceil, floor, most, entry, within, Breadth, bits, Amount, given, value}
 use Rattle.language.specs.Tree.{Expr, plain, sized, copies, read, cell, bit, range, inside, joined, beside, unary, binary, choice, either, select, arm, default}
-use Rattle.tape.specs.Tape.{item, flat_t, flat_b, flat_a, flat}
+use Rattle.tape.specs.Tape.{SELECT, item, flat_t, flat_b, flat_a, flat}
 use Rattle.tape.specs.Walk.{op_at, place_at, value_at}
 use Rattle.tape.proofs.Tapes.{fold, up_to, by_index, Goes, goes_none, goes_both, goes_item}
 use Rattle.placed.proofs.Every.{each_append}
@@ -113,13 +113,13 @@ module _ (ps : List ℕ) where
   type_does r l (number n) = single _ _ _ refl refl
   type_does r l (environment n) = single _ _ _ refl refl
   type_does r l (port n) = single _ _ _ refl refl
-  type_does r l (plus a b) = ends _ _ _ (both (type_does r l a) (type_does r _ b)) (refl, refl)
-  type_does r l (minus a b) = ends _ _ _ (both (type_does r l a) (type_does r _ b)) (refl, refl)
+  type_does r l (plus a b) = ends _ _ _ (both (type_does r l a) (type_does r (onto_t a l) b)) (refl, refl)
+  type_does r l (minus a b) = ends _ _ _ (both (type_does r l a) (type_does r (onto_t a l) b)) (refl, refl)
   type_does r l (log p a) = ends _ _ _ (type_does r l a) (refl, refl)
   type_does r l (ceil p a) = ends _ _ _ (type_does r l a) (refl, refl)
   type_does r l (floor p a) = ends _ _ _ (type_does r l a) (refl, refl)
   type_does r l (most p a) = ends _ _ _ (type_does r l a) (refl, refl)
-  type_does r l (entry a b) = ends _ _ _ (both (type_does r l a) (type_does r _ b)) (refl, refl)
+  type_does r l (entry a b) = ends _ _ _ (both (type_does r l a) (type_does r (onto_t a l) b)) (refl, refl)
   type_does r l (within p a) = ends _ _ _ (type_does r l a) (refl, refl)
 
   breadth_does : (r : Room) (l : List Triple) (w : Breadth) → Does ps r l (flat_b w) (things (breadth_items w)) r (onto_b w l)
@@ -160,11 +160,11 @@ module _ (ps : List ℕ) where
       told (two_types (items e) i j) (both (both (both (expr_does r l e) (type_does r _ i)) (type_does r _ j)) (single _ _ _ (held_both (type_whole i) (onto e l) (type_whole j) 64 64 refl refl) refl))
   expr_does r l (inside p e) = ends _ _ _ (expr_does r l e) (refl, refl)
   expr_does r l (joined p e) = ends _ _ _ (expr_does r l e) (refl, refl)
-  expr_does r l (beside a b) = ends _ _ _ (join (items a) (items b) (expr_does r l a) (expr_does r _ b)) (refl, refl)
+  expr_does r l (beside a b) = ends _ _ _ (join (items a) (items b) (expr_does r l a) (expr_does r (onto a l) b)) (refl, refl)
   expr_does r l (unary u e) = ends _ _ _ (expr_does r l e) (refl, refl)
-  expr_does r l (binary o a b) = ends _ _ _ (join (items a) (items b) (expr_does r l a) (expr_does r _ b)) (refl, refl)
-  expr_does r l (choice c a b) = ends _ _ _ (join3 (items c) (items a) (items b) (expr_does r l c) (expr_does r _ a) (expr_does r _ b)) (refl, refl)
-  expr_does r l (either p c a b) = ends _ _ _ (join3 (items c) (items a) (items b) (expr_does r l c) (expr_does r _ a) (expr_does r _ b)) (refl, refl)
-  expr_does r l (select p e a) = ends _ _ _ (join (items e) (items a) (ends _ _ _ (expr_does r l e) (refl, refl)) (expr_does r _ a)) (refl, refl)
-  expr_does r l (arm n e a) = ends _ _ _ (join (items e) (items a) (expr_does r l e) (expr_does r _ a)) (refl, refl)
+  expr_does r l (binary o a b) = ends _ _ _ (join (items a) (items b) (expr_does r l a) (expr_does r (onto a l) b)) (refl, refl)
+  expr_does r l (choice c a b) = ends _ _ _ (join3 (items c) (items a) (items b) (expr_does r l c) (expr_does r (onto c l) a) (expr_does r (onto a (onto c l)) b)) (refl, refl)
+  expr_does r l (either p c a b) = ends _ _ _ (join3 (items c) (items a) (items b) (expr_does r l c) (expr_does r (onto c l) a) (expr_does r (onto a (onto c l)) b)) (refl, refl)
+  expr_does r l (select p e a) = ends _ _ _ (join (items e) (items a) (ends _ _ _ (expr_does r l e) (refl, refl)) (expr_does r (it SELECT p 0 (onto e l)) a)) (refl, refl)
+  expr_does r l (arm n e a) = ends _ _ _ (join (items e) (items a) (expr_does r l e) (expr_does r (onto e l) a)) (refl, refl)
   expr_does r l (default p e) = ends _ _ _ (expr_does r l e) (refl, refl)

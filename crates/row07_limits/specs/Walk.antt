@@ -5,7 +5,7 @@ use Rattle.language.specs.Names.{when}
 use Rattle.tape.specs.Walk.{op_at, place_at, value_at}
 use Rattle.tape.specs.Tape.{TYPED, COPIES, BIT, RANGE, ASSIGN, WRITE, VAL, RULE, RULED, OR, DECLARED, MEMORY, SIZE, SIGNED}
 use Rattle.row07_limits.specs.declared.Room.{Room}
-use Rattle.part_lengths.specs.Parts.{Triple, before, held_in, one}
+use Rattle.part_lengths.specs.Parts.{Triple, before, held_in}
 
 -- ---- what an item has by its operation
 

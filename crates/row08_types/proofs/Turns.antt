@@ -5,8 +5,6 @@ use mathlib.Core.List.{List, [], ◌∷◌}
 use Prim.Native.Nat.{ℕ, zero, suc, ◌+◌, ◌-◌, ◌*◌, ◌/◌, ◌≤◌, ◌<◌}
 use native.Mathlib.Omega.{arith}
 use native.Mathlib.Numerals.{add-one}
-use types.Run.{OneOf, miss}
-use denote.Enum.Declared.{tag_of}
 use lib.Dec.{eqb, leb, ltb, eqb-suc-zero}
 use borrow.Author.Tests.{leb-true, leb-false, le-ltb, lt-ltb}
 use lib.ListN.{length, take, drop, length-take, length-drop}
@@ -21,89 +19,73 @@ use Rattle.tape.specs.declared.Node.{Node}
 use Rattle.tape.specs.declared.Node.TheVariants.{Number, Name, Port, Join, Minus, Log, Whole, Most, Within, Other}
 use Rattle.row08_types.specs.declared.Around.{Around}
 use Rattle.row08_types.specs.declared.Count.{Count}
-use Rattle.tape.specs.contracts.Node as node
 
 -- ---- the last arm
 
-abbrev in_types : List ℕ
-in_types = 0 ∷ 1 ∷ 2 ∷ 3 ∷ 4 ∷ 5 ∷ 6 ∷ 7 ∷ 8 ∷ []
-
-pub in_types_law : (k : Node) → OneOf in_types (tag_of node.the_type k) → true ≡ is_type k
+pub in_types_law : (k : Node) → (k ≡ Other → ⊥) → true ≡ is_type k
 unfolding is_type
-in_types_law Number h = refl
-in_types_law Name h = refl
-in_types_law Port h = refl
-in_types_law Join h = refl
-in_types_law Minus h = refl
-in_types_law Log h = refl
-in_types_law Whole h = refl
-in_types_law Most h = refl
-in_types_law Within h = refl
-in_types_law Other h = absurd (miss in_types 9 tt h)
+in_types_law Number _ = refl
+in_types_law Name _ = refl
+in_types_law Port _ = refl
+in_types_law Join _ = refl
+in_types_law Minus _ = refl
+in_types_law Log _ = refl
+in_types_law Whole _ = refl
+in_types_law Most _ = refl
+in_types_law Within _ = refl
+in_types_law Other h0 = absurd (h0 refl)
 
-abbrev not_outer : List ℕ
-not_outer = 0 ∷ 1 ∷ 2 ∷ 8 ∷ 9 ∷ []
-
-pub not_outer_law : (s : Around) (k : Node) → OneOf not_outer (tag_of node.the_type k) → s ≡ outer_of s k
+pub not_outer_law : (s : Around) (k : Node) → (k ≡ Join → ⊥) → (k ≡ Minus → ⊥) → (k ≡ Log → ⊥) → (k ≡ Whole → ⊥) → (k ≡ Most → ⊥) → s ≡ outer_of s k
 unfolding outer_of
-not_outer_law s Number h = refl
-not_outer_law s Name h = refl
-not_outer_law s Port h = refl
-not_outer_law s Join h = absurd (miss not_outer 3 tt h)
-not_outer_law s Minus h = absurd (miss not_outer 4 tt h)
-not_outer_law s Log h = absurd (miss not_outer 5 tt h)
-not_outer_law s Whole h = absurd (miss not_outer 6 tt h)
-not_outer_law s Most h = absurd (miss not_outer 7 tt h)
-not_outer_law s Within h = refl
-not_outer_law s Other h = refl
+not_outer_law s Number _ _ _ _ _ = refl
+not_outer_law s Name _ _ _ _ _ = refl
+not_outer_law s Port _ _ _ _ _ = refl
+not_outer_law s Join h0 _ _ _ _ = absurd (h0 refl)
+not_outer_law s Minus _ h1 _ _ _ = absurd (h1 refl)
+not_outer_law s Log _ _ h2 _ _ = absurd (h2 refl)
+not_outer_law s Whole _ _ _ h3 _ = absurd (h3 refl)
+not_outer_law s Most _ _ _ _ h4 = absurd (h4 refl)
+not_outer_law s Within _ _ _ _ _ = refl
+not_outer_law s Other _ _ _ _ _ = refl
 
-abbrev not_joined : List ℕ
-not_joined = 5 ∷ 6 ∷ 7 ∷ 8 ∷ 9 ∷ []
-
-pub not_joined_law : (n : ℕ) (k : Node) → OneOf not_joined (tag_of node.the_type k) → (n ≡ waiting_of n k) × (n ≡ coming_of n k)
+pub not_joined_law : (n : ℕ) (k : Node) → (k ≡ Number → ⊥) → (k ≡ Name → ⊥) → (k ≡ Port → ⊥) → (k ≡ Join → ⊥) → (k ≡ Minus → ⊥) → (n ≡ waiting_of n k) × (n ≡ coming_of n k)
 unfolding waiting_of coming_of
-not_joined_law n Number h = absurd (miss not_joined 0 tt h)
-not_joined_law n Name h = absurd (miss not_joined 1 tt h)
-not_joined_law n Port h = absurd (miss not_joined 2 tt h)
-not_joined_law n Join h = absurd (miss not_joined 3 tt h)
-not_joined_law n Minus h = absurd (miss not_joined 4 tt h)
-not_joined_law n Log h = (refl, refl)
-not_joined_law n Whole h = (refl, refl)
-not_joined_law n Most h = (refl, refl)
-not_joined_law n Within h = (refl, refl)
-not_joined_law n Other h = (refl, refl)
+not_joined_law n Number h0 _ _ _ _ = absurd (h0 refl)
+not_joined_law n Name _ h1 _ _ _ = absurd (h1 refl)
+not_joined_law n Port _ _ h2 _ _ = absurd (h2 refl)
+not_joined_law n Join _ _ _ h3 _ = absurd (h3 refl)
+not_joined_law n Minus _ _ _ _ h4 = absurd (h4 refl)
+not_joined_law n Log _ _ _ _ _ = (refl, refl)
+not_joined_law n Whole _ _ _ _ _ = (refl, refl)
+not_joined_law n Most _ _ _ _ _ = (refl, refl)
+not_joined_law n Within _ _ _ _ _ = (refl, refl)
+not_joined_law n Other _ _ _ _ _ = (refl, refl)
 
-abbrev not_counted : List ℕ
-not_counted = 0 ∷ 1 ∷ 2 ∷ 3 ∷ 4 ∷ 7 ∷ 8 ∷ 9 ∷ []
-
-pub not_counted_law : (s : Count) (k : Node) → OneOf not_counted (tag_of node.the_type k) → tally 0 (coming_of s.need k) s.logs ≡ count_in s k
+pub not_counted_law : (s : Count) (k : Node) → (k ≡ Log → ⊥) → (k ≡ Whole → ⊥) → tally 0 (coming_of s.need k) s.logs ≡ count_in s k
 unfolding coming_of count_in
-not_counted_law s Number h = refl
-not_counted_law s Name h = refl
-not_counted_law s Port h = refl
-not_counted_law s Join h = refl
-not_counted_law s Minus h = refl
-not_counted_law s Log h = absurd (miss not_counted 5 tt h)
-not_counted_law s Whole h = absurd (miss not_counted 6 tt h)
-not_counted_law s Most h = refl
-not_counted_law s Within h = refl
-not_counted_law s Other h = refl
+not_counted_law s Number _ _ = refl
+not_counted_law s Name _ _ = refl
+not_counted_law s Port _ _ = refl
+not_counted_law s Join _ _ = refl
+not_counted_law s Minus _ _ = refl
+not_counted_law s Log h0 _ = absurd (h0 refl)
+not_counted_law s Whole _ h1 = absurd (h1 refl)
+not_counted_law s Most _ _ = refl
+not_counted_law s Within _ _ = refl
+not_counted_law s Other _ _ = refl
 
-abbrev not_tested : List ℕ
-not_tested = 1 ∷ 3 ∷ 4 ∷ 6 ∷ 8 ∷ 9 ∷ []
-
-not_tested_law : (ks : List Node) (k : Node) (v : ℕ) (s : Around) → OneOf not_tested (tag_of node.the_type k) → false ≡ test ks k v s
+not_tested_law : (ks : List Node) (k : Node) (v : ℕ) (s : Around) → (k ≡ Number → ⊥) → (k ≡ Port → ⊥) → (k ≡ Most → ⊥) → (k ≡ Log → ⊥) → false ≡ test ks k v s
 unfolding test
-not_tested_law ks Number v s h = absurd (miss not_tested 0 tt h)
-not_tested_law ks Name v s h = refl
-not_tested_law ks Port v s h = absurd (miss not_tested 2 tt h)
-not_tested_law ks Join v s h = refl
-not_tested_law ks Minus v s h = refl
-not_tested_law ks Log v s h = absurd (miss not_tested 5 tt h)
-not_tested_law ks Whole v s h = refl
-not_tested_law ks Most v s h = absurd (miss not_tested 7 tt h)
-not_tested_law ks Within v s h = refl
-not_tested_law ks Other v s h = refl
+not_tested_law ks Number v s h0 _ _ _ = absurd (h0 refl)
+not_tested_law ks Name v s _ _ _ _ = refl
+not_tested_law ks Port v s _ h1 _ _ = absurd (h1 refl)
+not_tested_law ks Join v s _ _ _ _ = refl
+not_tested_law ks Minus v s _ _ _ _ = refl
+not_tested_law ks Log v s _ _ _ h3 = absurd (h3 refl)
+not_tested_law ks Whole v s _ _ _ _ = refl
+not_tested_law ks Most v s _ _ h2 _ = absurd (h2 refl)
+not_tested_law ks Within v s _ _ _ _ = refl
+not_tested_law ks Other v s _ _ _ _ = refl
 
 -- ---- none
 
@@ -269,5 +251,5 @@ module _ (t : List ℕ) (n i : ℕ) {q : Node} (e : q ≡ node_of (op_at t i)) w
   unfolding test
   log_test f g = g ∙ as_node f
 
-  pub no_test : OneOf not_tested (tag_of node.the_type q) → false ≡ faulty t n i
-  no_test h = not_tested_law (nodes_before t i) q (value_at t i) _ h ∙ as_node refl
+  pub no_test : (q ≡ Number → ⊥) → (q ≡ Port → ⊥) → (q ≡ Most → ⊥) → (q ≡ Log → ⊥) → false ≡ faulty t n i
+  no_test a b c d = not_tested_law (nodes_before t i) q (value_at t i) _ a b c d ∙ as_node refl

@@ -1,11 +1,10 @@
 -- Row 8 by the items of a tape: what the items after one say of its place, how many logs stand before it, and the test of it by both. Assumes nothing: these are definitions.
-use Rattle.std.specs.Prelude.{Bool, true, false, not, ◌||◌, ◌&&◌, List, [], ◌∷◌, ◌++◌, ℕ, zero, suc, ◌+◌, ◌-◌, ◌*◌, eqb, leb, take, drop}
+use Rattle.std.specs.Prelude.{Bool, true, false, not, ◌||◌, ◌&&◌, List, [], ◌∷◌, ℕ, zero, suc, ◌+◌, ◌-◌, ◌*◌, leb, take, drop}
 use Rattle.language.specs.Limits.{limits}
-use Rattle.language.specs.Names.{when}
 use Rattle.language.specs.Types.{together}
 use Rattle.tape.specs.Nodes.{node_of}
 use Rattle.tape.specs.Tape.{one_if}
-use Rattle.tape.specs.Walk.{op_at, place_at, value_at, marked}
+use Rattle.tape.specs.Walk.{op_at, value_at, marked}
 use Rattle.tape.specs.declared.Node.{Node}
 use Rattle.tape.specs.declared.Node.TheVariants.{Number, Name, Port, Join, Minus, Log, Whole, Most, Within, Other}
 use Rattle.row08_types.specs.declared.Around.{Around}
