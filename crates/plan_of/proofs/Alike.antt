@@ -188,7 +188,7 @@ module _ (p : List ℕ) (mask : ℕ) (v w memory x y : List ℕ) (alike : SameGi
   ends_alike s = go (twice s.writes)
     where
       done : Outcome
-      done = record { answer = 0; count = Rattle.language.specs.Values.onesOf 32 mask; outputs = s.outputs; memory = written s.writes memory }
+      done = record { answer = 0; count = Rattle.language.specs.Values.ones_of 32 mask; outputs = s.outputs; memory = written s.writes memory }
 
       go : (b : Bool) → Alike (elim b [ true ↦ refused_by p 25 memory x | false ↦ done ]) (elim b [ true ↦ refused_by p 25 memory y | false ↦ done ])
       go true = refused_alike p 25 memory x y (λ e. absurd (omega arith))

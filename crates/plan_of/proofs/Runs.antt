@@ -122,8 +122,8 @@ module _ (s : Setting) (g : Given) (lets : List (Let Slot)) (bits : List (Let Bi
   read_runs n a vs ls p = item g.values g.memory os qs (go (let_named lets a) (let_named bits a) (found (Holds ls) lets bits a p))
     where
       go : (x : Option Slot) (y : Option Bits) → Found (Holds ls) x y
-          → exec1 g.values g.memory (elim x [ some x ↦ Kept x.number | none ↦ Port (Rattle.language.specs.Meaning.portAt s a) ]) (state vs ls os qs)
-          ≡ state ((elim y as (λ _. Bits) [ some x ↦ x | none ↦ record { wide = Rattle.language.specs.Widths.portWidth s.actor s.widths a; value = get_or g.values (Rattle.language.specs.Meaning.portAt s a) 0 } ]).value ∷ vs) ls os qs
+          → exec1 g.values g.memory (elim x [ some x ↦ Kept x.number | none ↦ Port (Rattle.language.specs.Meaning.port_at s a) ]) (state vs ls os qs)
+          ≡ state ((elim y as (λ _. Bits) [ some x ↦ x | none ↦ record { wide = Rattle.language.specs.Widths.port_width s.actor s.widths a; value = get_or g.values (Rattle.language.specs.Meaning.port_at s a) 0 } ]).value ∷ vs) ls os qs
       go none none f = refl
       go none (some y) f = absurd f
       go (some x) none f = absurd f
