@@ -9,10 +9,9 @@ use native.Mathlib.Nat.{le-max_left, le-max_right}
 use lib.ListN.{length, get_or, set, length-set}
 use lib.Seq.{get_or-set_same, get_or-set_other}
 use lib.Dec.{eqb}
-use Rattle.language.specs.Text.{same}
 use Rattle.language.specs.Tree.{Expr, plain, sized, copies, read, cell, bit, range, inside, joined, beside, unary, binary, choice, either, select, arm, default}
 use Rattle.language.specs.Values.{copies_of, chosen}
-use Rattle.language.specs.Sizes.{Setting, Extent, wide, Let, let_named, amount_of, extent}
+use Rattle.language.specs.Sizes.{Setting, Extent, Let, let_named, amount_of, extent}
 use Rattle.language.specs.Meaning.{Bits, Given, Change, read_value, bits_in, cell_value}
 use Rattle.plan.specs.declared.Item.{Item}
 use Rattle.plan.specs.declared.Item.TheVariants.{Port, Let as Kept, Copies, Arm, Keep, Choice}
