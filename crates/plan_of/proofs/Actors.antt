@@ -216,7 +216,7 @@ module _ (s : Setting) (ms : List (List ℕ)) (ports : (n : List ℕ) → port_w
 
   still_signed : (n : Name) → Still (settled_signed s n)
   unfolding settled_signed
-  still_signed n = go (Rattle.language.specs.Text.among (Rattle.language.specs.Names.inputNames s.actor.ports) n.spelled)
+  still_signed n = go (Rattle.language.specs.Text.among (Rattle.language.specs.Names.input_names s.actor.ports) n.spelled)
     where
       go : (b : Bool) → Still (elim b [ true ↦ six 46 n.at (port_width s.actor s.widths n.spelled) 0 0 0 | false ↦ six 46 n.at (port_width s.actor s.widths n.spelled + 256) 0 0 0 ])
       go true = still_item 46 n.at (port_width s.actor s.widths n.spelled) 0 0 0 (idle_signed n.at _ 0 0 0)

@@ -97,6 +97,20 @@ module _ (p : List ℕ) (mask : ℕ) where
       go (ended e) q k r = both (matches_of p mask i) refl e q (r e k)
       go unended q k r = ended_not k
 
+  -- what fires of a group by how many rules match
+  fires_none : (g n : ℕ) → matching p mask (rules_before p g) (group_at p g) ≡ [] → firing p mask g (suc n) ≡ unfired 23
+  unfolding firing
+  fires_none g n e = rw (e, firing)
+
+  fires_one : (g n r : ℕ) → matching p mask (rules_before p g) (group_at p g) ≡ r ∷ []
+      → firing p mask g (suc n) ≡ (elim (firing p mask (suc g) n) as (λ _. Fired p) [ fired l ↦ fired (r ∷ l) | unfired k ↦ unfired k ])
+  unfolding firing
+  fires_one g n r e = rw (e, firing)
+
+  fires_two : (g n r q : ℕ) (l : List ℕ) → matching p mask (rules_before p g) (group_at p g) ≡ r ∷ q ∷ l → firing p mask g (suc n) ≡ unfired 24
+  unfolding firing
+  fires_two g n r q l e = rw (e, firing)
+
   firing_good : (taken g n : ℕ) → groups_check p taken g n ≡ true → FiredAll p Good (firing p mask g n)
   unfolding groups_check firing
   firing_good taken g zero h = tt
@@ -106,16 +120,14 @@ module _ (p : List ℕ) (mask : ℕ) where
       join r (fired l) a b = (a, b)
       join r (unfired k) a b = b
 
-      pick : (rs : List ℕ) (f : Fired p) → Every Good rs → FiredAll p Good f
-          → FiredAll p Good (elim rs as (λ _. Fired p) [ [] ↦ unfired 23 | r ∷ [] ↦ elim f as (λ _. Fired p) [ fired l ↦ fired (r ∷ l) | unfired k ↦ unfired k ] | r ∷ q ∷ l ↦ unfired 24 ])
-      pick [] f a b = λ e. absurd (omega arith)
-      pick (r ∷ []) f a b = join r f a.0 b
-      pick (r ∷ q ∷ l) f a b = λ e. absurd (omega arith)
+      pick : (rs : List ℕ) → matching p mask (rules_before p g) (group_at p g) ≡ rs → Every Good rs → FiredAll p Good (firing p mask (suc g) n) → FiredAll p Good (firing p mask g (suc n))
+      pick [] e a b = subst (λ (f : Fired p). FiredAll p Good f) (sym (fires_none g n e)) (λ q. absurd (omega arith))
+      pick (r ∷ []) e a b = subst (λ (f : Fired p). FiredAll p Good f) (sym (fires_one g n r e)) (join r (firing p mask (suc g) n) a.0 b)
+      pick (r ∷ q ∷ l) e a b = subst (λ (f : Fired p). FiredAll p Good f) (sym (fires_two g n r q l e)) (λ q. absurd (omega arith))
 
       go : (x : Ended) → group_check p taken taken (rules_before p g) (group_at p g) ≡ x → (elim x as (λ _. Bool) [ ended d ↦ groups_check p d (suc g) n | unended ↦ false ]) ≡ true
-          → ((d : ℕ) → groups_check p d (suc g) n ≡ true → FiredAll p Good (firing p mask (suc g) n))
-          → FiredAll p Good (elim (matching p mask (rules_before p g) (group_at p g)) as (λ _. Fired p) [ [] ↦ unfired 23 | r ∷ [] ↦ elim (firing p mask (suc g) n) as (λ _. Fired p) [ fired l ↦ fired (r ∷ l) | unfired k ↦ unfired k ] | r ∷ q ∷ l ↦ unfired 24 ])
-      go (ended d) e k r = pick (matching p mask (rules_before p g) (group_at p g)) (firing p mask (suc g) n) (matching_good taken taken (rules_before p g) (group_at p g) d e) (r d k)
+          → ((d : ℕ) → groups_check p d (suc g) n ≡ true → FiredAll p Good (firing p mask (suc g) n)) → FiredAll p Good (firing p mask g (suc n))
+      go (ended d) e k r = pick (matching p mask (rules_before p g) (group_at p g)) refl (matching_good taken taken (rules_before p g) (group_at p g) d e) (r d k)
       go unended e k r = absurd (false≢true k)
 
   bits_at : (r m i : ℕ) → bits_agree p mask r m ≡ true → i < m → bit_of (present_at p r) i ≡ 1 → bit_of mask i ≡ 1
@@ -188,7 +200,7 @@ module _ (p : List ℕ) (mask : ℕ) (v w memory x y : List ℕ) (alike : SameGi
   ends_alike s = go (twice s.writes)
     where
       done : Outcome
-      done = record { answer = 0; count = Rattle.language.specs.Values.onesOf 32 mask; outputs = s.outputs; memory = written s.writes memory }
+      done = record { answer = 0; count = Rattle.language.specs.Values.ones_of 32 mask; outputs = s.outputs; memory = written s.writes memory }
 
       go : (b : Bool) → Alike (elim b [ true ↦ refused_by p 25 memory x | false ↦ done ]) (elim b [ true ↦ refused_by p 25 memory y | false ↦ done ])
       go true = refused_alike p 25 memory x y (λ e. absurd (omega arith))

@@ -154,8 +154,8 @@ module _ (s : Setting) (g : Given) (lets : List (Let Slot)) (bits : List (Let Bi
   read_width n = go (let_named (extents lets) n) (let_named bits n) (found (λ x y. x ≡ wide y.wide) (extents lets) bits n (extents_named lets bits same_widths))
     where
       go : (x : Option Extent) (y : Option Bits) → Found (λ x y. x ≡ wide y.wide) x y
-          → (elim x [ some x ↦ used x | none ↦ wide (Rattle.language.specs.Widths.portWidth s.actor s.widths n) ])
-          ≡ wide (elim y as (λ _. Bits) [ some x ↦ x | none ↦ record { wide = Rattle.language.specs.Widths.portWidth s.actor s.widths n; value = get_or g.values (Rattle.language.specs.Meaning.portAt s n) 0 } ]).wide
+          → (elim x [ some x ↦ used x | none ↦ wide (Rattle.language.specs.Widths.port_width s.actor s.widths n) ])
+          ≡ wide (elim y as (λ _. Bits) [ some x ↦ x | none ↦ record { wide = Rattle.language.specs.Widths.port_width s.actor s.widths n; value = get_or g.values (Rattle.language.specs.Meaning.port_at s n) 0 } ]).wide
       go none none f = refl
       go none (some y) f = absurd f
       go (some x) none f = absurd f

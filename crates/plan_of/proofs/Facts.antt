@@ -9,7 +9,7 @@ use Rattle.language.specs.Text.{Name, among}
 use Rattle.language.specs.Words.{Word}
 use Rattle.language.specs.Tree.{Port, Entry, Expr, Assignment, assign, write, Statement, alone, scoped, Rule, Group, Actor, spelled_of, port_names, memory_names}
 use Rattle.language.specs.Parts.{each, start, type_start, wholes, statements, actor_items, types, numbers}
-use Rattle.language.specs.Names.{when, input_names, output_names, entry_names, clashing, missing, repeated, ports, memories, declaration_faults, type_name_faults, assignment_faults, val_faults, statement_faults, rule_faults, name_faults}
+use Rattle.language.specs.Names.{when, input_names, output_names, entry_names, clashing, missing, repeated, ports, declaration_faults, type_name_faults, assignment_faults, val_faults, statement_faults, rule_faults, name_faults}
 use Rattle.language.specs.Counts.{type_words, expr_words, word_after, too_many, val_names, rules_of, limit_faults}
 use Rattle.language.specs.Counts as Counts
 use Rattle.language.specs.Widths.{port_width, memory_width}

@@ -83,27 +83,57 @@ module _ (s : Setting) (ms : List (List ℕ)) (p : List ℕ) (mask : ℕ) where
   Fires (PlanGroups.unfired m) (fired rs) = ⊥
   Fires (PlanGroups.unfired m) (unfired n) = m ≡ n
 
+  -- what fires of a group by how many rules match, by the plan and by the text
+  plan_fires_none : (g n : ℕ) → PlanGroups.matching p mask (rules_before p g) (group_at p g) ≡ [] → PlanGroups.firing p mask g (suc n) ≡ PlanGroups.unfired 23
+  unfolding PlanGroups.firing
+  plan_fires_none g n e = rw (e, PlanGroups.firing)
+
+  plan_fires_one : (g n r : ℕ) → PlanGroups.matching p mask (rules_before p g) (group_at p g) ≡ r ∷ []
+      → PlanGroups.firing p mask g (suc n) ≡ (elim (PlanGroups.firing p mask (suc g) n) as (λ _. PlanGroups.Fired p) [ PlanGroups.fired l ↦ PlanGroups.fired (r ∷ l) | PlanGroups.unfired k ↦ PlanGroups.unfired k ])
+  unfolding PlanGroups.firing
+  plan_fires_one g n r e = rw (e, PlanGroups.firing)
+
+  plan_fires_two : (g n r q : ℕ) (l : List ℕ) → PlanGroups.matching p mask (rules_before p g) (group_at p g) ≡ r ∷ q ∷ l → PlanGroups.firing p mask g (suc n) ≡ PlanGroups.unfired 24
+  unfolding PlanGroups.firing
+  plan_fires_two g n r q l e = rw (e, PlanGroups.firing)
+
+  fires_none : (x : Group) (gs : List Group) → matching s mask x.rules ≡ [] → firing s mask (x ∷ gs) ≡ unfired 23
+  unfolding firing
+  fires_none x gs e = rw (e, firing)
+
+  fires_one : (x : Group) (gs : List Group) (r : Rule) → matching s mask x.rules ≡ r ∷ [] → firing s mask (x ∷ gs) ≡ (elim (firing s mask gs) as (λ _. Fired) [ fired l ↦ fired (r ∷ l) | unfired n ↦ unfired n ])
+  unfolding firing
+  fires_one x gs r e = rw (e, firing)
+
+  fires_two : (x : Group) (gs : List Group) (r q : Rule) (l : List Rule) → matching s mask x.rules ≡ r ∷ q ∷ l → firing s mask (x ∷ gs) ≡ unfired 24
+  unfolding firing
+  fires_two x gs r q l e = rw (e, firing)
+
   pub firing_agrees : (g : ℕ) (gs : List Group) → Groups g gs → Fires (PlanGroups.firing p mask g (length gs)) (firing s mask gs)
   unfolding PlanGroups.firing firing
   firing_agrees g [] f = tt
   firing_agrees g (x ∷ gs) f =
-      go (PlanGroups.matching p mask (rules_before p g) (group_at p g)) (matching s mask x.rules) (subst (λ (n : ℕ). Coded s ms p (PlanGroups.matching p mask (rules_before p g) n) (matching s mask x.rules)) (sym f.0) (matching_agrees (rules_before p g) x.rules f.1))
+      go (PlanGroups.matching p mask (rules_before p g) (group_at p g)) (matching s mask x.rules) refl refl
+      (subst (λ (n : ℕ). Coded s ms p (PlanGroups.matching p mask (rules_before p g) n) (matching s mask x.rules)) (sym f.0) (matching_agrees (rules_before p g) x.rules f.1))
       (firing_agrees (suc g) gs f.2)
     where
       next : (i : ℕ) (r : Rule) (m : PlanGroups.Fired p) (n : Fired) → (code_at p i ≡ rule_code s r) × FineRule s ms r → Fires m n
-          → Fires (elim m as (λ _. PlanGroups.Fired p) [ PlanGroups.fired l ↦ PlanGroups.fired (i ∷ l) | PlanGroups.unfired k ↦ PlanGroups.unfired k ]) (elim n [ fired l ↦ fired (r ∷ l) | unfired k ↦ unfired k ])
+          → Fires (elim m as (λ _. PlanGroups.Fired p) [ PlanGroups.fired l ↦ PlanGroups.fired (i ∷ l) | PlanGroups.unfired k ↦ PlanGroups.unfired k ]) (elim n as (λ _. Fired) [ fired l ↦ fired (r ∷ l) | unfired k ↦ unfired k ])
       next i r (PlanGroups.fired is) (fired rs) c h = (c.0, c.1, h)
       next i r (PlanGroups.fired is) (unfired n) c h = absurd h
       next i r (PlanGroups.unfired m) (fired rs) c h = absurd h
       next i r (PlanGroups.unfired m) (unfired n) c h = h
 
-      go : (is : List ℕ) (rs : List Rule) → Coded s ms p is rs → Fires (PlanGroups.firing p mask (suc g) (length gs)) (firing s mask gs)
-          → Fires (elim is as (λ _. PlanGroups.Fired p) [ [] ↦ PlanGroups.unfired 23 | r ∷ [] ↦ elim (PlanGroups.firing p mask (suc g) (length gs)) as (λ _. PlanGroups.Fired p) [ PlanGroups.fired l ↦ PlanGroups.fired (r ∷ l) | PlanGroups.unfired k ↦ PlanGroups.unfired k ] | r ∷ q ∷ l ↦ PlanGroups.unfired 24 ])
-          (elim rs [ [] ↦ unfired 23 | r ∷ [] ↦ elim (firing s mask gs) [ fired l ↦ fired (r ∷ l) | unfired n ↦ unfired n ] | r ∷ q ∷ l ↦ unfired 24 ])
-      go [] [] c h = refl
-      go [] (r ∷ rs) c h = absurd c
-      go (i ∷ is) [] c h = absurd c
-      go (i ∷ []) (r ∷ []) c h = next i r (PlanGroups.firing p mask (suc g) (length gs)) (firing s mask gs) (c.0, c.1) h
-      go (i ∷ []) (r ∷ q ∷ l) c h = absurd c.2
-      go (i ∷ j ∷ is) (r ∷ []) c h = absurd c.2
-      go (i ∷ j ∷ is) (r ∷ q ∷ l) c h = refl
+      -- both from what both are equal to
+      by : {m : PlanGroups.Fired p} {n : Fired} → PlanGroups.firing p mask g (suc (length gs)) ≡ m → firing s mask (x ∷ gs) ≡ n → Fires m n → Fires (PlanGroups.firing p mask g (suc (length gs))) (firing s mask (x ∷ gs))
+      by {m = m} {n = n} d e h = subst (λ (k : Fired). Fires (PlanGroups.firing p mask g (suc (length gs))) k) (sym e) (subst (λ (k : PlanGroups.Fired p). Fires k n) (sym d) h)
+
+      go : (is : List ℕ) (rs : List Rule) → PlanGroups.matching p mask (rules_before p g) (group_at p g) ≡ is → matching s mask x.rules ≡ rs → Coded s ms p is rs
+          → Fires (PlanGroups.firing p mask (suc g) (length gs)) (firing s mask gs) → Fires (PlanGroups.firing p mask g (suc (length gs))) (firing s mask (x ∷ gs))
+      go [] [] d e c h = by (plan_fires_none g _ d) (fires_none x gs e) refl
+      go [] (r ∷ rs) d e c h = absurd c
+      go (i ∷ is) [] d e c h = absurd c
+      go (i ∷ []) (r ∷ []) d e c h = by (plan_fires_one g _ i d) (fires_one x gs r e) (next i r (PlanGroups.firing p mask (suc g) (length gs)) (firing s mask gs) (c.0, c.1) h)
+      go (i ∷ []) (r ∷ q ∷ l) d e c h = absurd c.2
+      go (i ∷ j ∷ is) (r ∷ []) d e c h = absurd c.2
+      go (i ∷ j ∷ is) (r ∷ q ∷ l) d e c h = by (plan_fires_two g _ i j is d) (fires_two x gs r q l e) refl

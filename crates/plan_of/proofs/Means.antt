@@ -43,11 +43,11 @@ use Rattle.plan_of.proofs.Firing.{Stretch, stretch, group_rule, Placed, Groups, 
 use Rattle.plan_of.proofs.Rules.{Coded, puts, rules_do}
 use Rattle.plan_of.proofs.Facts.{RuleFacts, signature_distinct, inputs_known, outputs_known, signature_short, port_small, rule_facts, groups_separate}
 
-cells_long : (s : Setting) (ms : List Memory) → cells_in ms ≡ length (each (λ m. Rattle.language.specs.Meaning.copiesIn (size_of m) (memory_width s.actor s.widths m.called.spelled)) ms)
+cells_long : (s : Setting) (ms : List Memory) → cells_in ms ≡ length (each (λ m. Rattle.language.specs.Meaning.copies_in (size_of m) (memory_width s.actor s.widths m.called.spelled)) ms)
 unfolding cells_in each
 cells_long s [] = refl
 cells_long s (m ∷ ms) =
-    sym (length-append (Rattle.language.specs.Meaning.copiesIn (size_of m) (memory_width s.actor s.widths m.called.spelled)) _ ∙ ap₂ ◌+◌ (length_copies (size_of m) _) (sym (cells_long s ms)))
+    sym (length-append (Rattle.language.specs.Meaning.copies_in (size_of m) (memory_width s.actor s.widths m.called.spelled)) _ ∙ ap₂ ◌+◌ (length_copies (size_of m) _) (sym (cells_long s ms)))
 
 -- as many cells as the plan has
 pub plan_cells : (s : Setting) → cells_before (plan_of s) (memory_count (plan_of s)) ≡ length (cell_widths s)

@@ -18,7 +18,7 @@ use Rattle.plan.specs.declared.Item.{Item}
 use Rattle.plan.specs.declared.Item.TheVariants.{Beside, Choice, Keep}
 use Rattle.plan.specs.Items.{encode}
 use Rattle.plan_of.specs.PlanOf.{width_of}
-use Rattle.plan_of.specs.Formed.{Kind, whole, parts, arms}
+use Rattle.plan_of.specs.Formed.{Kind, whole, parts}
 use Rattle.plan_of.proofs.Extents.{chosen_extent}
 use Rattle.settled.specs.Form.{six, START, JOINED, BESIDE, SELECT, SELECTED}
 use Rattle.size_walk.specs.declared.Effect.{Effect}

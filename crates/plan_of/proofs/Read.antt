@@ -89,7 +89,7 @@ pub passed : (text bindings : List ℕ) (a : Actor) (b : Bindings) → early tex
 unfolding early worded parsed
 passed text bindings a b e = long (leb (length text) limits.actor) (leb (length bindings) limits.bindings) refl e
   where
-    trees : (ws : List Word) (y : Bindings) (r : Rattle.language.specs.Reader.Verdict Actor) → words_of text ≡ words ws → length text ≤ limits.actor → parse ws ≡ r → ◌≡◌ {A = Early} (elim r [ tree x ↦ judged ws x y | fault i ↦ stopped 5 InActor (Rattle.language.specs.Reading.wordPlace (length text) ws i) | tired ↦ stopped 5 InActor 0 ]) (through a b) → EarlyPassed text a b
+    trees : (ws : List Word) (y : Bindings) (r : Rattle.language.specs.Reader.Verdict Actor) → words_of text ≡ words ws → length text ≤ limits.actor → parse ws ≡ r → ◌≡◌ {A = Early} (elim r [ tree x ↦ judged ws x y | fault i ↦ stopped 5 InActor (Rattle.language.specs.Reading.word_place (length text) ws i) | tired ↦ stopped 5 InActor 0 ]) (through a b) → EarlyPassed text a b
     trees ws y (tree x) l n q e = judged_through text ws x y a b l q n e
     trees ws y (fault i) l n q e = never e
     trees ws y tired l n q e = never e

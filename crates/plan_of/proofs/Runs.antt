@@ -9,10 +9,9 @@ use native.Mathlib.Nat.{le-max_left, le-max_right}
 use lib.ListN.{length, get_or, set, length-set}
 use lib.Seq.{get_or-set_same, get_or-set_other}
 use lib.Dec.{eqb}
-use Rattle.language.specs.Text.{same}
 use Rattle.language.specs.Tree.{Expr, plain, sized, copies, read, cell, bit, range, inside, joined, beside, unary, binary, choice, either, select, arm, default}
 use Rattle.language.specs.Values.{copies_of, chosen}
-use Rattle.language.specs.Sizes.{Setting, Extent, wide, Let, let_named, amount_of, extent}
+use Rattle.language.specs.Sizes.{Setting, Extent, Let, let_named, amount_of, extent}
 use Rattle.language.specs.Meaning.{Bits, Given, Change, read_value, bits_in, cell_value}
 use Rattle.plan.specs.declared.Item.{Item}
 use Rattle.plan.specs.declared.Item.TheVariants.{Port, Let as Kept, Copies, Arm, Keep, Choice}
@@ -122,8 +121,8 @@ module _ (s : Setting) (g : Given) (lets : List (Let Slot)) (bits : List (Let Bi
   read_runs n a vs ls p = item g.values g.memory os qs (go (let_named lets a) (let_named bits a) (found (Holds ls) lets bits a p))
     where
       go : (x : Option Slot) (y : Option Bits) → Found (Holds ls) x y
-          → exec1 g.values g.memory (elim x [ some x ↦ Kept x.number | none ↦ Port (Rattle.language.specs.Meaning.portAt s a) ]) (state vs ls os qs)
-          ≡ state ((elim y as (λ _. Bits) [ some x ↦ x | none ↦ record { wide = Rattle.language.specs.Widths.portWidth s.actor s.widths a; value = get_or g.values (Rattle.language.specs.Meaning.portAt s a) 0 } ]).value ∷ vs) ls os qs
+          → exec1 g.values g.memory (elim x [ some x ↦ Kept x.number | none ↦ Port (Rattle.language.specs.Meaning.port_at s a) ]) (state vs ls os qs)
+          ≡ state ((elim y as (λ _. Bits) [ some x ↦ x | none ↦ record { wide = Rattle.language.specs.Widths.port_width s.actor s.widths a; value = get_or g.values (Rattle.language.specs.Meaning.port_at s a) 0 } ]).value ∷ vs) ls os qs
       go none none f = refl
       go none (some y) f = absurd f
       go (some x) none f = absurd f

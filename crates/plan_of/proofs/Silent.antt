@@ -3,7 +3,7 @@ use mathlib.Core.Path.{◌≡◌, refl, sym, ap, ◌∙◌}
 use mathlib.Core.Bool.{Bool, true, false, not, ◌||◌, false≢true}
 use mathlib.Core.List.{List, [], ◌∷◌, ◌++◌, append_assoc}
 use mathlib.Core.Option.{Option, none, some}
-use Prim.Native.Nat.{ℕ, suc, ◌+◌, ◌/◌, ◌%◌, ◌^◌}
+use Prim.Native.Nat.{ℕ, suc, ◌/◌, ◌%◌, ◌^◌}
 use lib.Dec.{eqb, ltb}
 use borrow.Author.Tests.{eqb-true}
 use Rattle.language.specs.Text.{Name}
@@ -103,7 +103,7 @@ module _ (s : Setting) where
   unfolding settled_kept quiet
   silent_kept k v = go v.type
     where
-      go : (t : Declared) → Silent (elim t [ untyped ↦ six 37 v.called.at k 0 0 0 | Declared.typed t ↦ six 36 v.called.at k 0 0 (Rattle.language.specs.Widths.typeWidth s.actor s.bindings s.widths t) ])
+      go : (t : Declared) → Silent (elim t [ untyped ↦ six 37 v.called.at k 0 0 0 | Declared.typed t ↦ six 36 v.called.at k 0 0 (Rattle.language.specs.Widths.type_width s.actor s.bindings s.widths t) ])
       go untyped = silent_six 37 _ k 0 0 0 refl
       go (Declared.typed t) = silent_six 36 _ k 0 0 _ refl
 

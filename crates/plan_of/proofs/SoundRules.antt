@@ -215,7 +215,7 @@ module _ (s : Setting) (present taken : ℕ) (ms : List (List ℕ)) where
         let q = assignable_append m (output_of y) (each output_of xs) a in
         let d = assignment_ends m lets y ls f.0 x.0 q.0 l h in
         rw (mask_append s m (output_of y) (each output_of xs))
-        (ends_both d (assignments_end _ lets xs d.after f.1 x.1 q.1 (d.kept.long ∙ l) (widths_kept 16 lets (omega arith) d.kept h)))
+        (ends_both d (assignments_end (mask_after s m (output_of y)) lets xs d.after f.1 x.1 q.1 (d.kept.long ∙ l) (widths_kept 16 lets (omega arith) d.kept h)))
 
     -- ## `val`s
 

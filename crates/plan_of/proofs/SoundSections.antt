@@ -24,8 +24,6 @@ use Rattle.language.specs.Meaning.{port_at}
 use Rattle.plan.proofs.Lists.{four_long}
 use Rattle.plan.specs.Layout as Layout
 use Rattle.plan.specs.Items.{encode}
-use Rattle.plan.specs.declared.Item.{Item}
-use Rattle.plan.specs.declared.Item.TheVariants.{Const, Port, Let as Kept, Cell, Range, Copies, Beside, Before, Between, Choice, Arm, Keep, Assign, Write, Bad}
 use Rattle.plan.specs.Sound.{port_ok, memory_fits, group_ok, all_up_to, apart, rule_ok, sections_ok}
 use Rattle.placed.proofs.Every.{append_nils, every_at, each_append}
 use Rattle.plan_of.specs.PlanOf.{mask_of, rule_code, body_code, plan_of}

@@ -1,19 +1,19 @@
 -- The plan of an accepted actor with its bindings and widths, as a list of numbers (docs/PLAN.md). Assumes nothing: these are definitions.
 use mathlib.Core.Bool.{Bool, true, false}
-use Rattle.std.specs.Prelude.{List, [], ◌∷◌, ◌++◌, ℕ, zero, suc, ◌+◌, ◌*◌, ◌/◌, ◌%◌, ◌^◌, length}
-use Rattle.std.proofs.Math.Option.{Option, none, some}
+use Rattle.std.specs.Prelude.{List, [], ◌∷◌, ◌++◌, ℕ, suc, ◌+◌, ◌/◌, ◌%◌, ◌^◌, length}
+use Rattle.std.proofs.Math.Option.{none, some}
 use Rattle.language.specs.Text.{Name, index, among}
-use Rattle.language.specs.Tree.{Prefix, Expr, plain, sized, copies, read, cell, bit, range, inside, joined, beside, unary, binary, choice, either, select, arm, default}
-use Rattle.language.specs.Tree.{Declared, untyped, Memory, Entry, Val, Assignment, assign, write, Statement, alone, scoped, Rule, Group, Actor, spelled_of, memory_names}
+use Rattle.language.specs.Tree.{Expr, plain, sized, copies, read, cell, bit, range, inside, joined, beside, unary, binary, choice, either, select, arm, default}
+use Rattle.language.specs.Tree.{Memory, Entry, Val, Assignment, assign, write, Statement, alone, scoped, Rule, spelled_of, memory_names}
 use Rattle.language.specs.Parts.{each}
 use Rattle.language.specs.Names.{input_names}
 use Rattle.language.specs.Counts.{size_of, rules_of}
-use Rattle.language.specs.Widths.{port_width, memory_width, type_width}
+use Rattle.language.specs.Widths.{port_width, memory_width}
 use Rattle.language.specs.Values.{plain_width}
 use Rattle.language.specs.Sizes.{Setting, Extent, wide, faulty, Let, let_named, breadth_of, amount_of, position_at, extent, val_extent}
 use Rattle.language.specs.Meaning.{cells_before, cells_of, port_at, position_in}
 use Rattle.plan.specs.declared.Item.{Item}
-use Rattle.plan.specs.declared.Item.TheVariants.{Const, Port, Let as Kept, Cell, Range, Copies, Beside, Before, Between, Choice, Arm, Keep, Assign, Write, Bad}
+use Rattle.plan.specs.declared.Item.TheVariants.{Const, Port, Let as Kept, Cell, Range, Copies, Beside, Before, Between, Choice, Arm, Keep, Assign, Write}
 use Rattle.plan.specs.Items.{encode}
 use Rattle.plan.specs.Sound.{case_slot, arm_slot}
 

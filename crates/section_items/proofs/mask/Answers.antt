@@ -1,9 +1,5 @@
 -- `section_items::mask` meets its contract: the sum of the bits passed, and of those to come before the rule's end, is that of all, in 32 bits. Assumes nothing.
-<<<<<<< HEAD
-use Rattle.std.proofs.Common.{ℕ, ◌+◌, ◌-◌, ◌%◌, ◌^◌, sym, refl, ap, ◌∙◌, zero-add, arith}
-=======
 use Rattle.std.proofs.Common.{ℕ, ◌+◌, ◌%◌, ◌^◌, sym, refl, ap, ◌∙◌, zero-add, arith}
->>>>>>> a041bf4b3fe0467dcc4f52a8b86e206046b8fee0
 use native.Mathlib.Nat.{mod-mod}
 use Rattle.section_items.specs.Items.{mask_up_to, bit_of}
 use Rattle.section_items.specs.Sections.{items_from, item_at}
@@ -16,23 +12,15 @@ loop-i-init c = (omega arith, refl, ap (λ (x : ℕ). x % 2 ^ 32) (zero-add _))
 pub returns-then-items-i-eq-RULED : goal.returns-then-items-i-eq-RULED
 returns-then-items-i-eq-RULED c =
     let args = c.args in
-<<<<<<< HEAD
     let pre = c.requires in
     let loop = c.loop-i in
     no_more_law (2 ^ 32) loop.invariant.1 (mask_ruled args.items.now args.n loop.i pre.few (omega arith) args.wanted c.if-items-i-eq-RULED.true) ∙
-=======
-    let loop = c.loop-i in
-    no_more_law (2 ^ 32) loop.invariant.1 (mask_ruled args.items.now args.n loop.i c.requires.few (omega arith) args.wanted c.if-items-i-eq-RULED.true) ∙
->>>>>>> a041bf4b3fe0467dcc4f52a8b86e206046b8fee0
     loop.invariant.2
 
 pub loop-i-preserved : goal.loop-i-preserved
 loop-i-preserved c =
     let args = c.args in
-<<<<<<< HEAD
     let pre = c.requires in
-=======
->>>>>>> a041bf4b3fe0467dcc4f52a8b86e206046b8fee0
     let loop = c.loop-i in
     let if1 = c.if-items-i-eq-RULED in (
       omega arith,
@@ -40,11 +28,7 @@ loop-i-preserved c =
       ap
           (λ (x : ℕ). (x + mask_up_to args.wanted (items_from args.items.now args.n (loop.i + 6))) % 2 ^ 32) c.wrapping_add_u32-sum.ensures.value ∙
           wrapped loop.sum (bit_of args.wanted (item_at args.items.now loop.i)) _ (2 ^ 32) c.bit-b.ensures ∙ ap
-<<<<<<< HEAD
           (λ (x : ℕ). (loop.sum + x) % 2 ^ 32) (sym (mask_more args.items.now args.n loop.i pre.few (omega arith) args.wanted if1.false)) ∙
-=======
-          (λ (x : ℕ). (loop.sum + x) % 2 ^ 32) (sym (mask_more args.items.now args.n loop.i c.requires.few (omega arith) args.wanted if1.false)) ∙
->>>>>>> a041bf4b3fe0467dcc4f52a8b86e206046b8fee0
           loop.invariant.2,
     )
 

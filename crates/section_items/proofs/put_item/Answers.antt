@@ -1,9 +1,5 @@
 -- `section_items::put_item` meets its contract, section by section. Assumes nothing.
-<<<<<<< HEAD
-use Rattle.std.proofs.Common.{length, arith, length-set, rules}
-=======
 use Rattle.std.proofs.Common.{length, arith, length-set}
->>>>>>> a041bf4b3fe0467dcc4f52a8b86e206046b8fee0
 use Rattle.section_items.proofs.Sections.{width_as, put_port, put_memory, put_group, put_rule}
 use Rattle.section_items.proofs.put_item.Goals as goal
 

@@ -1,5 +1,5 @@
 -- `section_items::rules` meets its contract: the rules passed, and those to come before the next group, are all. Assumes nothing.
-use Rattle.std.proofs.Common.{◌-◌, ⊎_elim, arith}
+use Rattle.std.proofs.Common.{arith}
 use Rattle.section_items.proofs.Items.{rules_group, rules_here, rules_past, rules_end}
 use Rattle.section_items.proofs.rules.Goals as goal
 use Rattle.section_items.proofs.rules.Goals.{in-39, in_default}
