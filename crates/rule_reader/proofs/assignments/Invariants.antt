@@ -1,0 +1,14 @@
+-- `rule_reader::assignments` meets its contract. Assumes nothing.
+use Prim.Native.Nat.{◌-◌}
+use Rattle.language.specs.Reader.{is_name}
+use Rattle.language.specs.Parser.{assignment_p}
+use Rattle.tape.specs.Tape.{flat_assignment}
+use Rattle.readers.specs.Marks.{count}
+use Rattle.readers.proofs.Lists.{Listed}
+use Rattle.rule_reader.proofs.assignments.Given as goal
+
+abbrev pub invariant-loop-at : goal.invariant-loop-at
+invariant-loop-at l = Listed flat_assignment is_name (λ ms f n r. assignment_p ms f n r) l.words l.initial.x l.initial.m l.initial.tape l.x l.m l.tape
+
+abbrev pub decreases-loop-at : goal.decreases-loop-at
+decreases-loop-at l = count l.words - l.x

@@ -1,0 +1,14 @@
+-- `rule_reader::groups` meets its contract. Assumes nothing.
+use Prim.Native.Nat.{◌-◌}
+use Rattle.language.specs.Reader.{is}
+use Rattle.language.specs.Parser.{group_p}
+use Rattle.tape.specs.Tape.{flat_group}
+use Rattle.readers.specs.Marks.{count}
+use Rattle.readers.proofs.Lists.{Listed}
+use Rattle.rule_reader.proofs.groups.Given as goal
+
+abbrev pub invariant-loop-at : goal.invariant-loop-at
+invariant-loop-at l = Listed flat_group (is "or") (λ ms f p r. group_p ms f p r) l.words l.initial.x l.initial.m l.initial.tape l.x l.m l.tape
+
+abbrev pub decreases-loop-at : goal.decreases-loop-at
+decreases-loop-at l = count l.words - l.x

@@ -1,0 +1,21 @@
+-- `syntax::reading::read` meets its contract. Assumes nothing.
+use native.Mathlib.Omega.{arith}
+use mathlib.Core.Path.{sym, ◌∙◌}
+use Rattle.syntax.proofs.Whole.{found_words, found_some, bad_said, bad_after, short_said, short_after, long_said, long_after}
+use borrow.Author.Rules.{rules}
+use Rattle.syntax.proofs.reading.read.Goals as goal
+
+pub returns-then-text-gt-BYTES : goal.returns-then-text-gt-BYTES
+returns-then-text-gt-BYTES c = record { answer = long_said _ c.if-text-gt-BYTES.true; tape = long_after _ _ c.if-text-gt-BYTES.true; room = tt }
+
+pub listed-requires : goal.listed-requires
+listed-requires c = found_words _ _ (omega arith) (search rules) c.words.ensures.table (sym c.in-Words.is ∙ c.words.ensures.answer)
+
+pub returns-in-Words : goal.returns-in-Words
+returns-in-Words c = record { answer = c.listed.ensures.answer ∙ short_said _ (omega arith); tape = c.listed.ensures.tape ∙ short_after _ _ (omega arith); room = c.listed.ensures.room }
+
+pub returns-in-Bad : goal.returns-in-Bad
+returns-in-Bad c = let e = sym c.in-Bad.is ∙ c.words.ensures.answer in record { answer = bad_said _ _ (omega arith) (search rules) e ∙ short_said _ (omega arith); tape = bad_after _ _ (omega arith) (search rules) _ e ∙ short_after _ _ (omega arith); room = tt }
+
+pub returns-in-NoRoom : goal.returns-in-NoRoom
+returns-in-NoRoom c = absurd (found_some _ _ (omega arith) (search rules) (sym c.in-NoRoom.is ∙ c.words.ensures.answer))
