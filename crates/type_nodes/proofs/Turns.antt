@@ -5,8 +5,6 @@ use mathlib.Core.List.{List, [], ◌∷◌}
 use Prim.Native.Nat.{ℕ, zero, suc, ◌+◌, ◌-◌, ◌*◌, ◌/◌, ◌≤◌, ◌<◌}
 use native.Mathlib.Omega.{arith}
 use native.Mathlib.Numerals.{add-one}
-use types.Run.{OneOf, miss}
-use denote.Enum.Declared.{tag_of}
 use lib.Dec.{eqb, eqb-suc-zero}
 use lib.ListN.{length, take, drop, length-take, length-drop}
 use Rattle.language.specs.Text.{same, index}
@@ -20,74 +18,58 @@ use Rattle.type_nodes.specs.declared.Role.TheVariants.{Node, Keep, Signed, Decla
 use Rattle.type_nodes.specs.declared.Goal.{Goal}
 use Rattle.type_nodes.specs.declared.Goal.TheVariants.{Port as PortAt, Memory as MemoryAt}
 use Rattle.type_nodes.specs.declared.Counts.{Counts}
-use Rattle.type_nodes.specs.contracts.Role as role
 
 -- ---- the last arm
 
-abbrev not_over : List ℕ
-not_over = 0 ∷ 1 ∷ 2 ∷ 3 ∷ 4 ∷ 6 ∷ []
-
-pub not_over_law : (k : Role) → OneOf not_over (tag_of role.the_type k) → (false ≡ is_over k) × ((n : ℕ) → n ≡ kept_of k 0 n)
+pub not_over_law : (k : Role) → (k ≡ Over → ⊥) → (false ≡ is_over k) × ((n : ℕ) → n ≡ kept_of k 0 n)
 unfolding is_over kept_of
-not_over_law Node h = (refl, λ n. refl)
-not_over_law Keep h = (refl, λ n. refl)
-not_over_law Signed h = (refl, λ n. refl)
-not_over_law Declared h = (refl, λ n. refl)
-not_over_law Memory h = (refl, λ n. refl)
-not_over_law Over h = absurd (miss not_over 5 tt h)
-not_over_law Clear h = (refl, λ n. refl)
+not_over_law Node _ = (refl, λ n. refl)
+not_over_law Keep _ = (refl, λ n. refl)
+not_over_law Signed _ = (refl, λ n. refl)
+not_over_law Declared _ = (refl, λ n. refl)
+not_over_law Memory _ = (refl, λ n. refl)
+not_over_law Over h0 = absurd (h0 refl)
+not_over_law Clear _ = (refl, λ n. refl)
 
-abbrev not_counted : List ℕ
-not_counted = 0 ∷ 1 ∷ 3 ∷ 5 ∷ 6 ∷ []
-
-pub not_counted_law : (c : Counts) (k : Role) → OneOf not_counted (tag_of role.the_type k) → c ≡ counted_of c k
+pub not_counted_law : (c : Counts) (k : Role) → (k ≡ Signed → ⊥) → (k ≡ Memory → ⊥) → c ≡ counted_of c k
 unfolding counted_of
-not_counted_law c Node h = refl
-not_counted_law c Keep h = refl
-not_counted_law c Signed h = absurd (miss not_counted 2 tt h)
-not_counted_law c Declared h = refl
-not_counted_law c Memory h = absurd (miss not_counted 4 tt h)
-not_counted_law c Over h = refl
-not_counted_law c Clear h = refl
+not_counted_law c Node _ _ = refl
+not_counted_law c Keep _ _ = refl
+not_counted_law c Signed h0 _ = absurd (h0 refl)
+not_counted_law c Declared _ _ = refl
+not_counted_law c Memory _ h1 = absurd (h1 refl)
+not_counted_law c Over _ _ = refl
+not_counted_law c Clear _ _ = refl
 
-abbrev not_memory : List ℕ
-not_memory = 0 ∷ 1 ∷ 2 ∷ 3 ∷ 5 ∷ 6 ∷ []
-
-pub not_memory_law : (g : Goal) (k : Role) → OneOf not_memory (tag_of role.the_type k) → g ≡ left_of g k
+pub not_memory_law : (g : Goal) (k : Role) → (k ≡ Memory → ⊥) → g ≡ left_of g k
 unfolding left_of
-not_memory_law g Node h = refl
-not_memory_law g Keep h = refl
-not_memory_law g Signed h = refl
-not_memory_law g Declared h = refl
-not_memory_law g Memory h = absurd (miss not_memory 4 tt h)
-not_memory_law g Over h = refl
-not_memory_law g Clear h = refl
+not_memory_law g Node _ = refl
+not_memory_law g Keep _ = refl
+not_memory_law g Signed _ = refl
+not_memory_law g Declared _ = refl
+not_memory_law g Memory h0 = absurd (h0 refl)
+not_memory_law g Over _ = refl
+not_memory_law g Clear _ = refl
 
-abbrev not_holding : List ℕ
-not_holding = 0 ∷ 1 ∷ 2 ∷ 6 ∷ []
-
-pub not_holding_law : (text : List ℕ) (g : Goal) (k : Role) (p : ℕ) → OneOf not_holding (tag_of role.the_type k) → false ≡ stops_at text g k p
+pub not_holding_law : (text : List ℕ) (g : Goal) (k : Role) (p : ℕ) → (k ≡ Over → ⊥) → (k ≡ Declared → ⊥) → (k ≡ Memory → ⊥) → false ≡ stops_at text g k p
 unfolding stops_at
-not_holding_law text g Node p h = refl
-not_holding_law text g Keep p h = refl
-not_holding_law text g Signed p h = refl
-not_holding_law text g Declared p h = absurd (miss not_holding 3 tt h)
-not_holding_law text g Memory p h = absurd (miss not_holding 4 tt h)
-not_holding_law text g Over p h = absurd (miss not_holding 5 tt h)
-not_holding_law text g Clear p h = refl
+not_holding_law text g Node p _ _ _ = refl
+not_holding_law text g Keep p _ _ _ = refl
+not_holding_law text g Signed p _ _ _ = refl
+not_holding_law text g Declared p _ h1 _ = absurd (h1 refl)
+not_holding_law text g Memory p _ _ h2 = absurd (h2 refl)
+not_holding_law text g Over p h0 _ _ = absurd (h0 refl)
+not_holding_law text g Clear p _ _ _ = refl
 
-abbrev not_in_type : List ℕ
-not_in_type = 2 ∷ 3 ∷ 4 ∷ 5 ∷ 6 ∷ []
-
-pub not_in_type_law : (k : Role) (l : List ℕ) (x : ℕ) → OneOf not_in_type (tag_of role.the_type k) → [] ≡ grown_of k l x
+pub not_in_type_law : (k : Role) (l : List ℕ) (x : ℕ) → (k ≡ Node → ⊥) → (k ≡ Keep → ⊥) → [] ≡ grown_of k l x
 unfolding grown_of
-not_in_type_law Node l x h = absurd (miss not_in_type 0 tt h)
-not_in_type_law Keep l x h = absurd (miss not_in_type 1 tt h)
-not_in_type_law Signed l x h = refl
-not_in_type_law Declared l x h = refl
-not_in_type_law Memory l x h = refl
-not_in_type_law Over l x h = refl
-not_in_type_law Clear l x h = refl
+not_in_type_law Node l x h0 _ = absurd (h0 refl)
+not_in_type_law Keep l x _ h1 = absurd (h1 refl)
+not_in_type_law Signed l x _ _ = refl
+not_in_type_law Declared l x _ _ = refl
+not_in_type_law Memory l x _ _ = refl
+not_in_type_law Over l x _ _ = refl
+not_in_type_law Clear l x _ _ = refl
 
 -- ---- whose type is sought
 
