@@ -83,7 +83,7 @@ module _ (btext t : List ℕ) where
       long = let x = length-append (cells b.widths) (cells b.values) in let y = cells_long b.widths in let z = cells_long b.values in omega arith
 
       few : length (cells b.widths ++ cells b.values) ≤ 96
-      few = let l = long in let x = (bound_names_law btext e).few-widths in let y = (bound_names_law btext e).few-values in omega arith
+      few = let l = long in let x = (bound_names_law btext e).few_widths in let y = (bound_names_law btext e).few_values in omega arith
 
   pub read_fills : {k m : ℕ} → answer_of btext t ≡ IsBound k m → Filled btext (table_after btext t) (so_many k m)
   unfolding answer_of table_after roomy
