@@ -1,14 +1,14 @@
 -- A cycle of an accepted text keeps the number of outputs and of cells. Assumes nothing.
-use mathlib.Core.Path.{◌≡◌, refl, sym, ap, ◌∙◌}
+use mathlib.Core.Path.{◌≡◌, refl, ap, ◌∙◌}
 use mathlib.Core.Bool.{Bool, true, false}
-use mathlib.Core.List.{List, [], ◌∷◌, ◌++◌}
+use mathlib.Core.List.{List, [], ◌∷◌}
 use Prim.Native.Nat.{ℕ, suc}
 use lib.ListN.{length, set, length-set}
 use Rattle.language.specs.Text.{Name}
 use Rattle.language.specs.Tree.{Rule}
 use Rattle.language.specs.Parts.{each}
 use Rattle.language.specs.Sizes.{Setting}
-use Rattle.language.specs.Meaning.{Given, Outcome, Change, Fired, fired, unfired, firing, fitting, twice, written, in_rules, writes_of, assigns_of, assigned_to, refused_by, acts, cycle}
+use Rattle.language.specs.Meaning.{Given, Change, Fired, fired, unfired, firing, fitting, twice, written, in_rules, writes_of, assigns_of, assigned_to, refused_by, acts, cycle}
 
 each_length : (f : Name → ℕ) (l : List Name) → length (each (λ n. f n ∷ []) l) ≡ length l
 unfolding each

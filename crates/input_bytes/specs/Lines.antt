@@ -3,7 +3,6 @@ use Rattle.std.specs.Prelude.{◌≡◌, true, false, List, [], ◌++◌, ℕ, z
 use Rattle.std.proofs.lemmas.List.Edits.{sets}
 use Rattle.language.specs.Limits.{limits}
 use Rattle.language.specs.Meaning.{Outcome}
-use Rattle.language.specs.Worked.{line}
 use Rattle.plan.specs.Layout.{port_at, memory_count, cells_before}
 use Rattle.turn.specs.Cycle.{cycle_of}
 use Rattle.cycle_line.specs.Shown.{line_bytes, ports_of, shown_of}
