@@ -7,27 +7,20 @@ use Rattle.language.specs.Text.{same}
 use Rattle.language.specs.Words.{span, name_byte}
 use Rattle.name_marks.proofs.Marked.{memory_here, memory_next, memory_none, memory_end}
 use Rattle.name_marks.proofs.remembered.Goals as goal
-use Rattle.name_marks.proofs.remembered.Goals.{then-tape-k-eq-MEMORY+else-stands, else-tape-k-eq-MEMORY}
 
 pub loop-k-init : goal.loop-k-init
 loop-k-init c = (omega arith, refl)
 
 pub returns-then-stands : goal.returns-then-stands
 returns-then-stands c = memory_here c.args.text.now c.args.tape.now c.args.name.now
-    c.args.n c.loop-k.k (omega arith) (omega (arith, c.requires)) c.if-tape-k-eq-MEMORY.true
+    c.args.n c.loop-k.k (omega arith) (omega (arith, c.requires)) (cc)
     (ap (λ (p : ℕ). same (span name_byte (drop p c.args.text.now)) c.args.name.now) (sym c.wide-at.ensures) ∙ sym c.stands.ensures ∙ c.if-stands.true)
     ∙ c.loop-k.invariant.1
 
 pub loop-k-preserved : goal.loop-k-preserved
 loop-k-preserved c = (
   omega arith,
-  elim c.if-tape-k-eq-MEMORY.branch [
-    | then-tape-k-eq-MEMORY+else-stands w ↦ sym (memory_next c.args.text.now c.args.tape.now c.args.name.now c.args.n c.loop-k.k (omega arith)
-        (omega (arith, c.requires)) w.if-tape-k-eq-MEMORY.true (ap (λ (p : ℕ). same (span name_byte (drop p c.args.text.now)) c.args.name.now) (sym w.wide-at.ensures) ∙ sym w.stands.ensures ∙ w.if-stands.false))
-        ∙ c.loop-k.invariant.1
-    | else-tape-k-eq-MEMORY w ↦ sym (memory_none c.args.text.now c.args.tape.now c.args.name.now c.args.n c.loop-k.k (omega arith)
-        (omega (arith, c.requires)) w.if-tape-k-eq-MEMORY.false) ∙ c.loop-k.invariant.1
-  ],
+  grind (arith, memory_next, memory_none),
 )
 
 pub returns : goal.returns

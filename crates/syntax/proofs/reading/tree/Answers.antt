@@ -12,8 +12,8 @@ head-requires c = omega (arith, c.requires.ready.table.few)
 pub mark-requires : goal.mark-requires
 mark-requires c = record {
   tabled = c.requires.ready.table;
-  taped = head_taped c.requires.ready.held c.requires.ready.marked c.requires.ready.table.few
-      c.requires.taped.long c.head.ensures c.in-At.is;
+  taped = let v = head_taped c.requires.ready.held c.requires.ready.marked c.requires.ready.table.few
+      c.requires.taped.long c.head.ensures c.in-At.is in record { few = omega arith; long = v.long };
 }
 
 pub ending-requires : goal.ending-requires
