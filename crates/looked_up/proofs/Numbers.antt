@@ -5,9 +5,9 @@ use mathlib.Core.List.{List, [], ◌∷◌, ◌++◌}
 use Prim.Native.Nat.{ℕ, zero, suc, ◌+◌, ◌*◌, ◌-◌, ◌≤◌, ◌<◌}
 use native.Mathlib.Omega.{arith}
 use native.Mathlib.Numerals.{add-one}
-use lib.Dec.{eqb, ltb}
+use lib.Dec.{eqb}
 use lib.ListN.{length, get_or, take}
-use borrow.Author.Tests.{eq-eqb, ne_eqb, le-ltb, lt-ltb}
+use borrow.Author.Tests.{eq-eqb, ne_eqb, le-ltb}
 use Rattle.language.specs.Text.{same, index, among}
 use Rattle.language.specs.Tree.{spelled_of}
 use Rattle.language.specs.Parts.{each}

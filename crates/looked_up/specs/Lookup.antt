@@ -1,5 +1,5 @@
 -- What the items of a tape and the lines of the bindings say of a name. Assumes nothing: these are definitions.
-use Rattle.std.specs.Prelude.{Bool, true, false, List, [], ◌∷◌, ℕ, zero, suc, ◌+◌, ◌^◌, eqb, ltb}
+use Rattle.std.specs.Prelude.{true, false, List, [], ◌∷◌, ℕ, zero, suc, ◌+◌, ◌^◌, eqb, ltb}
 use Rattle.placed.specs.Placed.{name_from}
 use Rattle.tape.specs.Tape.{MEMORY, SIZE}
 use Rattle.tape.specs.Walk.{op_at, place_at, value_at, add, pick}

@@ -1,0 +1,11 @@
+-- `looked_up::latest` meets its contract: what is left of the items answers as all of them. Assumes nothing.
+use mathlib.Core.Path.{◌≡◌}
+use Prim.Native.Nat.{◌+◌, ◌-◌, ◌≤◌}
+use Rattle.looked_up.proofs.Numbers.{Before}
+use Rattle.looked_up.proofs.latest.Given as goal
+
+abbrev pub invariant-loop-i : goal.invariant-loop-i
+invariant-loop-i l = (l.from ≤ l.i) × (l.i ≤ l.to) × (l.k ≤ l.to - l.i) × (Before l.text l.tape l.from l.called l.to ≡ l.k + Before l.text l.tape l.from l.called l.i)
+
+abbrev pub decreases-loop-i : goal.decreases-loop-i
+decreases-loop-i l = l.i
