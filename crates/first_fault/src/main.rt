@@ -10,7 +10,6 @@ const STDIN: i32 = 0;
 
 const STDOUT: i32 = 1;
 
-
 // An actor's text has at most a word for each byte: four numbers each in the table, three on the tape.
 const BYTES: usize = language::Actor::BYTES as usize;
 
