@@ -14,7 +14,7 @@ set -eu
 folder=$(cd "$1" && pwd)
 root=$(cd "$(dirname "$0")/../.." && pwd)
 cd "$root"
-rt lib tipi_abi >&2
+(cd crates/tipi_abi && rt lib) >&2
 mkdir -p target
 rustc -O --edition 2021 tests/plans/print.rs -L crates/tipi_abi/out -l static=tipi_abi -o target/print
 made=target/plans
