@@ -5,7 +5,7 @@ use mathlib.Core.List.{List, [], ◌∷◌}
 use mathlib.Core.Option.{Option, none, some}
 use Prim.Native.Nat.{ℕ, suc, ◌+◌, ◌-◌, ◌*◌, ◌/◌, ◌%◌, ◌^◌, ◌<◌}
 use native.Mathlib.Omega.{arith}
-use lib.Dec.{eqb, ltb}
+use lib.Dec.{ltb}
 use lib.ListN.{get_or, take}
 use borrow.Author.Tests.{ne_eqb, lt-ltb}
 use Rattle.language.specs.Text.{index, among}
@@ -15,7 +15,6 @@ use Rattle.sized_constants.specs.declared.Amount.{Amount}
 use Rattle.sized_constants.specs.declared.Amount.TheVariants.{Exact, TooBig}
 use Rattle.sized_constants.specs.Constant.{amount_of}
 use Rattle.tape.specs.Tape as Tape
-use Rattle.exact.specs.declared.Position.{Position}
 use Rattle.exact.specs.declared.Position.TheVariants.{At, Outside}
 use Rattle.exact.specs.Room.{positioned}
 use Rattle.type_value.specs.Walk.{value_of}

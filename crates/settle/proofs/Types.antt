@@ -1,11 +1,11 @@
 -- The walk over a type's items leaves the type's code on those that wait. Assumes nothing.
-use mathlib.Core.Path.{◌≡◌, refl, sym, ap, ◌∙◌}
+use mathlib.Core.Path.{◌≡◌, refl, ap, ◌∙◌}
 use mathlib.Core.List.{List, [], ◌∷◌, ◌++◌, append-nil}
 use Prim.Native.Nat.{ℕ, ◌+◌, ◌*◌, ◌^◌, ◌<◌}
 use borrow.Author.Tests.{lt-ltb}
 use Rattle.language.specs.Text.{index}
 use Rattle.language.specs.Tree.{Ty, number, environment, port, plus, minus, log, ceil, floor, most, entry, within}
-use Rattle.tape.specs.Tape.{item, flat_t, NUMBER, ENVIRONMENT, PORT, PLUS, MINUS, LOG, CEIL, FLOOR, MOST, ENTRY, WITHIN}
+use Rattle.tape.specs.Tape.{flat_t, NUMBER, ENVIRONMENT, PORT, PLUS, MINUS, LOG, CEIL, FLOOR, MOST, ENTRY, WITHIN}
 use Rattle.tape.proofs.Tapes.{Goes, goes_both, goes_item}
 use Rattle.type_value.specs.Terms.{code, resolve}
 use Rattle.item_writes.specs.Walk.{Around, State, step, takes, without, grown, leaf, ends, joins, when, named_out, written}
@@ -43,11 +43,11 @@ types_go a s (environment n) h =
 types_go a s (port n) h =
     goes_item PORT n.at 0
     (kept s _ _ (ap (λ (m : List ℕ). (leaf (index a.ports m * 8 + 1) ∷ []) ∷ s.types) h.0 ∙ ap (λ (k : ℕ). (k ∷ []) ∷ s.types) (leaf_is (index a.ports n.spelled * 8 + 1) h.1)))
-types_go a s (plus x y) h = goes_both (goes_both (types_go a s x h.0) (types_go a _ y h.1)) (goes_item PLUS 0 0 (kept s _ _ refl))
-types_go a s (minus x y) h = goes_both (goes_both (types_go a s x h.0) (types_go a _ y h.1)) (goes_item MINUS 0 0 (kept s _ _ refl))
+types_go a s (plus x y) h = goes_both (goes_both (types_go a s x h.0) (types_go a (with_types s (code (resolve (index a.ports) a.value x) ∷ s.types)) y h.1)) (goes_item PLUS 0 0 (kept s _ _ refl))
+types_go a s (minus x y) h = goes_both (goes_both (types_go a s x h.0) (types_go a (with_types s (code (resolve (index a.ports) a.value x) ∷ s.types)) y h.1)) (goes_item MINUS 0 0 (kept s _ _ refl))
 types_go a s (log p x) h = goes_both (types_go a s x h) (goes_item LOG p 0 (kept s _ _ refl))
 types_go a s (ceil p x) h = goes_both (types_go a s x h) (goes_item CEIL p 0 (kept s _ _ refl))
 types_go a s (floor p x) h = goes_both (types_go a s x h) (goes_item FLOOR p 0 (kept s _ _ refl))
 types_go a s (most p x) h = goes_both (types_go a s x h) (goes_item MOST p 0 (kept s _ _ refl))
-types_go a s (entry x y) h = goes_both (goes_both (types_go a s x h.0) (types_go a _ y h.1)) (goes_item ENTRY 0 0 (kept s _ _ refl))
+types_go a s (entry x y) h = goes_both (goes_both (types_go a s x h.0) (types_go a (with_types s (code (resolve (index a.ports) a.value x) ∷ s.types)) y h.1)) (goes_item ENTRY 0 0 (kept s _ _ refl))
 types_go a s (within p x) h = goes_both (types_go a s x h) (goes_item WITHIN p 0 (kept s _ _ refl))

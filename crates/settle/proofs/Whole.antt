@@ -15,7 +15,6 @@ use Rattle.language.specs.Bindings.{Bindings}
 use Rattle.language.specs.Widths.{value_in, Resolved}
 use Rattle.language.specs.Sizes.{Setting}
 use Rattle.placed.proofs.Placed.{placed}
-use Rattle.tape.specs.Tape as Tape
 use Rattle.tape.specs.declared.Class.{Class}
 use Rattle.tape.specs.Walk.{op_at, place_at, value_at, between}
 use Rattle.tape.proofs.Tapes.{fold, up_to, by_index, goes_whole}

@@ -2,7 +2,7 @@
 use mathlib.Core.Path.{◌≡◌, refl, sym, ap, subst, ◌∙◌}
 use mathlib.Core.Logic.{◌↔◌, ⊎_elim}
 use mathlib.Core.Bool.{Bool, true, false}
-use mathlib.Core.List.{List, [], ◌∷◌, ◌++◌}
+use mathlib.Core.List.{List, ◌++◌}
 use mathlib.Core.Option.{Option, none, some}
 use Prim.Native.Nat.{ℕ, ◌+◌, ◌*◌, ◌≤◌, ◌<◌}
 use native.Mathlib.Omega.{arith}
@@ -34,7 +34,7 @@ use Rattle.lines.proofs.Placed.{line_around}
 use Rattle.row13_plan.specs.Made as Making
 use Rattle.tipi.specs.Told.{answer_of, table_after, Read}
 use Rattle.plan_answer.specs.Answered.{made_of}
-use Rattle.tipi.specs.Demands.{RefusedCycle, Demand1, Demand2, HasWidth, Fulfils, LeastWidths, DemandWidths, Means, Demand3, DemandLine, Demands}
+use Rattle.tipi.specs.Demands.{RefusedCycle, Demand1, Demand2, HasWidth, Fulfils, LeastWidths, DemandWidths, Means, DemandLine, Demands}
 use Rattle.plan_answer.specs.declared.Answer.{Answer}
 use Rattle.plan_answer.specs.declared.Answer.TheVariants.{Plan, Refused}
 use Rattle.tipi.proofs.Answers.{answers}

@@ -3,9 +3,9 @@ use mathlib.Core.Path.{◌≡◌, refl, sym, ap, ap₂, subst, ◌∙◌}
 use mathlib.Core.Bool.{Bool, true, false}
 use mathlib.Core.List.{List, [], ◌∷◌, ◌++◌}
 use mathlib.Core.Option.{Option, none, some}
-use Prim.Native.Nat.{ℕ, zero, suc, ◌+◌, ◌-◌, ◌*◌, ◌/◌, ◌%◌, ◌^◌, ◌≤◌, ◌<◌}
+use Prim.Native.Nat.{ℕ, zero, suc, ◌+◌, ◌-◌, ◌*◌, ◌/◌, ◌%◌, ◌^◌, ◌≤◌}
 use native.Mathlib.Omega.{arith}
-use lib.Dec.{eqb, leb}
+use lib.Dec.{eqb}
 use lib.ListN.{length, take, drop, get_or, replicate, length-append, length-take}
 use lib.Seq.{take_at}
 use Rattle.language.specs.Text.{earliest}
@@ -50,7 +50,7 @@ use Rattle.row10_widths.specs.declared.Answer.TheVariants.{Widths, Nothing}
 use Rattle.tipi.specs.Told.{answer_of, table_after, Told, goes, After, Heard, Settled, late_of}
 use Rattle.plan_answer.specs.Answered.{made_of, sums}
 use Rattle.plan_answer.specs.declared.Answer.{Answer}
-use Rattle.plan_answer.specs.declared.Answer.TheVariants.{Plan, Refused}
+use Rattle.plan_answer.specs.declared.Answer.TheVariants.{Refused}
 use Rattle.early_rows.proofs.Rows.{no_fault}
 
 -- ---- lengths in a table of zeros

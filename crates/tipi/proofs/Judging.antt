@@ -15,12 +15,9 @@ use Rattle.language.specs.Widths.{strangers, unsettled}
 use Rattle.language.specs.Reading.{Early, stopped, through, refused, row, judged}
 use Rattle.language.specs.declared.Text.{Text}
 use Rattle.language.specs.declared.Text.TheVariants.{Actor as InActor, Bindings as InBindings}
-use Rattle.words.specs.Found.{place_told}
-use Rattle.words.specs.declared.Place.{Place}
-use Rattle.words.specs.declared.Place.TheVariants.{At, Nowhere}
 use Rattle.bindings.specs.declared.Lines.{Lines}
 use Rattle.row10_widths.specs.Row.{Passed}
-use Rattle.tipi.specs.Told.{answer_of, table_after, Told, Follows, stops, After, Heard}
+use Rattle.tipi.specs.Told.{answer_of, table_after, stops, After, Heard}
 use Rattle.early_rows.specs.Verdicts.{verdict_of, TextsHeld}
 use Rattle.plan_answer.specs.declared.Answer.{Answer}
 use Rattle.plan_answer.specs.declared.Answer.TheVariants.{Plan, Refused}

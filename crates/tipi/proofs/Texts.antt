@@ -1,9 +1,9 @@
 -- Rows 1 to 5 as `read` meets them: what `bindings` and `syntax` answer is what document 01 says. Assumes nothing.
 use mathlib.Core.Path.{◌≡◌, refl, sym, ap, ap₂, subst, ◌∙◌}
 use mathlib.Core.Bool.{Bool, true, false, ◌&&◌}
-use mathlib.Core.List.{List, [], ◌∷◌}
+use mathlib.Core.List.{List}
 use mathlib.Core.Option.{Option, none, some}
-use Prim.Native.Nat.{ℕ, ◌+◌, ◌*◌, ◌≤◌, ◌<◌}
+use Prim.Native.Nat.{ℕ, ◌≤◌, ◌<◌}
 use native.Mathlib.Omega.{arith}
 use lib.Dec.{leb}
 use borrow.Author.Tests.{le-leb, lt-leb}
@@ -31,10 +31,10 @@ use Rattle.bindings.specs.declared.Lines.{Lines}
 use Rattle.tape.specs.Row.{Tells}
 use Rattle.row09_bindings.specs.Lines.{Binds}
 use Rattle.row09_bindings.proofs.Tables.{Filled, read_fills}
-use Rattle.tipi.specs.Told.{answer_of, table_after, Told, Follows, stops, goes, After, Read}
+use Rattle.tipi.specs.Told.{answer_of, table_after, Follows, stops, goes, After, Read}
 use Rattle.early_rows.specs.Verdicts.{TextsHeld}
 use Rattle.plan_answer.specs.declared.Answer.{Answer}
-use Rattle.plan_answer.specs.declared.Answer.TheVariants.{Plan, Refused}
+use Rattle.plan_answer.specs.declared.Answer.TheVariants.{Refused}
 
 -- a refusal is met as it stands
 pub refusal : (n : ℕ) (t : Text) (p : ℕ) {e : Early} (before : List ℕ) → e ≡ stopped n t p → After e (Refused n t p) before before

@@ -1,13 +1,13 @@
 -- Two texts are read in one way, so that what `read` promises decides its answer and its table; and where it answers with a plan, which plan that is. Assumes nothing.
 use mathlib.Core.Path.{◌≡◌, refl, sym, ap, subst, ◌∙◌}
 use mathlib.Core.Bool.{Bool, true, false}
-use mathlib.Core.List.{List, [], ◌∷◌, ◌++◌}
-use mathlib.Core.Option.{Option, none, some}
-use Prim.Native.Nat.{ℕ, ◌≤◌}
+use mathlib.Core.List.{List}
+use mathlib.Core.Option.{Option}
+use Prim.Native.Nat.{ℕ}
 use native.Mathlib.Omega.{arith}
 use lib.Dec.{leb}
 use borrow.Author.Tests.{leb-true}
-use lib.ListN.{length, take, drop}
+use lib.ListN.{length, take}
 use lib.Seq.{sets, sets-eq, take_at}
 use Rattle.language.specs.Words.{Word, words_of, words}
 use Rattle.language.specs.Tree.{Actor}
@@ -22,7 +22,7 @@ use Rattle.plan_of.specs.PlanOf.{plan_of}
 use Rattle.plan_of.specs.Theorems.{Planned}
 use Rattle.plan_of.proofs.Theorems.{reads_planned}
 use Rattle.row13_plan.specs.Made as Making
-use Rattle.tipi.specs.Told.{answer_of, table_after, Told, Read}
+use Rattle.tipi.specs.Told.{answer_of, table_after, Read}
 use Rattle.plan_answer.specs.Answered.{made_of}
 use Rattle.plan_answer.specs.declared.Answer.{Answer}
 use Rattle.plan_answer.specs.declared.Answer.TheVariants.{Plan, Refused}

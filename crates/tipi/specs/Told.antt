@@ -1,7 +1,6 @@
 -- What `read` answers and writes, by the answer that document 01 gives. Assumes nothing: these are definitions.
-use Rattle.std.specs.Prelude.{◌≡◌, true, false, List, [], ◌∷◌, ℕ, ◌+◌, ◌*◌, ◌≤◌, leb, length, take}
+use Rattle.std.specs.Prelude.{◌≡◌, List, [], ℕ, ◌*◌, take}
 use Rattle.std.proofs.Math.Option.{Option, some}
-use Rattle.language.specs.Limits.{limits}
 use Rattle.language.specs.Words.{Word}
 use Rattle.language.specs.Tree.{Actor}
 use Rattle.language.specs.Bindings.{Bindings}
@@ -10,17 +9,14 @@ use Rattle.language.specs.Sizes.{Setting}
 use Rattle.language.specs.Reading as Reading
 use Rattle.language.specs.Reading.{Early, stopped, through, refused, accepted, judged, Reads, late}
 use Rattle.language.specs.declared.Text.{Text}
-use Rattle.language.specs.declared.Text.TheVariants.{Actor as InActor}
 use Rattle.plan_of.specs.PlanOf.{plan_of}
 use Rattle.plan_of.specs.Accepted.{Grammatical}
-use Rattle.tape.specs.Row.{Tells}
 use Rattle.bindings.specs.declared.Lines.{Lines}
-use Rattle.row09_bindings.specs.Lines.{Binds}
 use Rattle.row10_widths.specs.Row.{Passed, Asked}
 use Rattle.settled.specs.Settled.{settled_of}
 use Rattle.row13_plan.specs.Made.{table_after as table_with}
 use Rattle.plan_answer.specs.declared.Answer.{Answer}
-use Rattle.plan_answer.specs.declared.Answer.TheVariants.{Plan, Refused}
+use Rattle.plan_answer.specs.declared.Answer.TheVariants.{Refused}
 use Rattle.plan_answer.specs.Answered.{made_of}
 use Rattle.early_rows.specs.Verdicts.{TextsHeld}
 

@@ -16,7 +16,7 @@ use Rattle.figures.specs.declared.Stage.{Stage}
 use Rattle.figures.specs.declared.Stage.TheVariants.{ActorCount, Actor, BindingsCount, Bindings, CycleCount, Line, Wrong}
 use Rattle.figures.specs.States.{start_of, wrong_of, takes_of, longer_of}
 use Rattle.input_bytes.specs.Texts.{count_byte}
-use Rattle.input_bytes.specs.Bytes.{Machine, machine, stated, moved_at, moved_of, ended_at}
+use Rattle.input_bytes.specs.Bytes.{Machine, stated, moved_at, moved_of, ended_at}
 use Rattle.tipirun.specs.Machine.{passed_at, passed_by, Judges, unwritten}
 use Rattle.figures.proofs.Counting.{takes_none, takes_first, takes_next}
 use Rattle.input_bytes.proofs.Counting.{count_takes, count_unbegun, count_wrong, count_ends}

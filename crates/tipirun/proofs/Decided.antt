@@ -5,8 +5,7 @@ use mathlib.Core.List.{List, [], ◌∷◌, ◌++◌}
 use Prim.Native.Nat.{ℕ}
 use lib.Dec.{ltb}
 use lib.ListN.{take}
-use Rattle.language.specs.Reading.{Answer, Reads}
-use Rattle.tipi.specs.Told.{answer_of, table_after}
+use Rattle.language.specs.Reading.{Answer}
 use Rattle.tipi.proofs.Answers.{answers}
 use Rattle.tipi.proofs.Theorems.{reads_once}
 use Rattle.figures.specs.declared.Stage.{Stage}

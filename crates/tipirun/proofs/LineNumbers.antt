@@ -14,7 +14,7 @@ use Rattle.figures.specs.declared.Stage.TheVariants.{Line, Wrong}
 use Rattle.figures.specs.declared.State.{State}
 use Rattle.figures.specs.States.{wrong_of, grown_of, most_of, stays_of, line_takes, longer_of}
 use Rattle.input_bytes.specs.Lines.{standing, line_byte}
-use Rattle.input_bytes.specs.Bytes.{Machine, machine, stated, lined, moved_at, moved_of}
+use Rattle.input_bytes.specs.Bytes.{Machine, stated, lined, moved_at, moved_of}
 use Rattle.figures.proofs.Counting.{takes_none, takes_first, takes_next, most_mask, most_value}
 use Rattle.figures.proofs.Counting.{line_first, line_none}
 use Rattle.input_bytes.proofs.Ends.{line_takes_law, line_unbegun}

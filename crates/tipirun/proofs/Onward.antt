@@ -2,16 +2,15 @@
 use mathlib.Core.Path.{◌≡◌, refl, sym, ap, ap₂, ◌∙◌, subst}
 use mathlib.Core.Bool.{Bool, true, false}
 use mathlib.Core.List.{List, [], ◌∷◌, ◌++◌, append_assoc}
-use Prim.Native.Nat.{ℕ, zero, suc, ◌+◌, ◌*◌, ◌≤◌, ◌<◌}
+use Prim.Native.Nat.{ℕ}
 use lib.Dec.{ltb}
-use lib.ListN.{length, take, drop}
 use Rattle.language.specs.Reading.{Answer}
 use Rattle.tipi.specs.Told.{table_after}
 use Rattle.figures.specs.declared.Stage.{Stage}
 use Rattle.figures.specs.declared.Stage.TheVariants.{ActorCount, Actor, BindingsCount, Bindings, CycleCount, Line, Through, Wrong, Stopped}
 use Rattle.figures.specs.declared.State.{State}
 use Rattle.input_bytes.specs.Bytes.{Machine, machine, stated, moved_at, moved_of, ended_at, ended_of}
-use Rattle.tipirun.specs.Machine.{passed_at, passed_of, whole, at_bindings, plan_passed, passed_by, Judges, Stepped, unwritten, preceded, Runs, stays, goes}
+use Rattle.tipirun.specs.Machine.{passed_at, passed_of, whole, at_bindings, plan_passed, passed_by, Stepped, unwritten, preceded, Runs, stays, goes}
 
 -- ---- all that is written from a machine on
 

@@ -1,36 +1,35 @@
 -- A run up to its cycles: what is written is `bad`, or a refusal's line, or comes from a plan in its table, as document 01 has it. Assumes nothing.
 use mathlib.Core.Path.{◌≡◌, refl, sym, ap, ap₂, ◌∙◌, subst}
 use mathlib.Core.Bool.{Bool, true, false}
-use mathlib.Core.List.{List, [], ◌∷◌, ◌++◌}
-use Prim.Native.Nat.{ℕ, zero, suc, ◌+◌, ◌-◌, ◌*◌, ◌^◌, ◌≤◌, ◌<◌, min}
+use mathlib.Core.List.{List, [], ◌∷◌}
+use Prim.Native.Nat.{ℕ, ◌≤◌, ◌<◌}
 use native.Mathlib.Omega.{arith}
-use borrow.Author.Tests.{le-leb, lt-leb, leb-true, leb-false}
+use borrow.Author.Tests.{lt-leb, leb-true, leb-false}
 use lib.Dec.{leb}
-use lib.ListN.{length, take, drop, replicate, length-take, length-replicate}
+use lib.ListN.{length, take, replicate, length-take, length-replicate}
 use lib.Seq.{take_all}
 use Rattle.language.specs.Bindings.{Got, got, lost, after}
-use Rattle.language.specs.Reading.{Answer, refused, accepted, Early, early, Reads, reads_early, reads_late}
+use Rattle.language.specs.Reading.{Answer, refused, accepted, early, Reads, reads_early, reads_late}
 use Rattle.language.specs.Sizes.{Setting}
 use Rattle.language.specs.declared.Text.{Text}
 use Rattle.language.specs.declared.Text.TheVariants.{Actor as InActor}
-use Rattle.language.specs.Worked.{is_bad, line, Input, counted, input_of, answered, Writes, writes_bad, writes}
+use Rattle.language.specs.Worked.{is_bad, line, Input, counted, input_of, answered}
 use Rattle.plan_of.specs.PlanOf.{plan_of}
 use Rattle.tipi.specs.Told.{answer_of, table_after}
 use Rattle.plan_answer.specs.Answered.{made_of}
 use Rattle.plan_answer.specs.declared.Answer.{Answer as Told}
 use Rattle.plan_answer.specs.declared.Answer.TheVariants.{Plan, Refused}
-use Rattle.figures.specs.declared.Stage.{Stage}
-use Rattle.figures.specs.declared.Stage.TheVariants.{ActorCount, Actor, BindingsCount, Bindings, CycleCount, Line, Through, Wrong, Stopped}
+use Rattle.figures.specs.declared.Stage.TheVariants.{Actor, BindingsCount, Bindings, CycleCount, Stopped}
 use Rattle.figures.specs.declared.State.{State}
 use Rattle.figures.specs.States.{start_of}
 use Rattle.tipirun.specs.Reading.{planned_of, judged_of}
 use Rattle.input_bytes.specs.Texts.{actor_byte, bindings_byte}
-use Rattle.input_bytes.specs.Bytes.{Machine, machine, stated, moved_at, ended_of}
-use Rattle.tipirun.specs.Machine.{passed_of, passed_by, plan_passed, whole, unwritten, Runs, started, Prints, prints}
+use Rattle.input_bytes.specs.Bytes.{Machine, machine, moved_at}
+use Rattle.tipirun.specs.Machine.{passed_by, unwritten, started, Prints, prints}
 use Rattle.tipirun.proofs.Stages.{over_actor, over_bindings, over_plan, same_plan, whole_at}
 use Rattle.input_bytes.proofs.Endings.{ended_refused}
 use Rattle.tipirun.proofs.Onward.{From, from, closed, stopped_closed}
-use Rattle.tipirun.proofs.CountLines.{Enters, actor_count, bindings_count}
+use Rattle.tipirun.proofs.CountLines.{actor_count, bindings_count}
 use Rattle.tipirun.proofs.TextRuns.{Kept, kept_none, actor_text, bindings_text, Whole, Texted, counted_run}
 use Rattle.input_bytes.proofs.Numbers.{rest_length, counted_length}
 

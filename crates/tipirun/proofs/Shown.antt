@@ -1,11 +1,11 @@
 -- THE THEOREM, up to the cycles: for every input shorter than 2^64 - 1 bytes what the program writes is what document 01 says, but where row 13 refuses the plan;
 -- where cycles are to come, their count is the one that the definitions read, and the machine stands before the first with the plan of the text. Assumes nothing.
-use mathlib.Core.Path.{◌≡◌, refl, sym, ap, ◌∙◌, subst}
+use mathlib.Core.Path.{◌≡◌, refl, sym, ◌∙◌, subst}
 use mathlib.Core.List.{List, [], ◌∷◌}
 use Prim.Native.Nat.{ℕ, ◌<◌, ◌≤◌, min}
 use native.Mathlib.Omega.{arith}
 use lib.ListN.{length, replicate}
-use Rattle.language.specs.Bindings.{Got, got, lost, after, byte}
+use Rattle.language.specs.Bindings.{Got, got, lost, after}
 use Rattle.language.specs.Reading.{refused, accepted, Reads}
 use Rattle.language.specs.Sizes.{Setting}
 use Rattle.language.specs.declared.Text.{Text}
@@ -18,7 +18,6 @@ use Rattle.figures.specs.States.{start_of}
 use Rattle.input_bytes.specs.Bytes.{Machine, stated}
 use Rattle.tipirun.specs.Machine.{room, Prints}
 use Rattle.tipirun.specs.Statement.{HasRoom}
-use Rattle.tipirun.proofs.Onward.{From}
 use Rattle.tipirun.proofs.CountLines.{Enters, Counted, cycle_count, count_run}
 use Rattle.input_bytes.proofs.Numbers.{line_end}
 use Rattle.tipirun.proofs.Opening.{Ready, Opens, refuses, no_room, runs_on, Opening, bad, texts, opening}

@@ -3,18 +3,18 @@
 -- Each byte's step and the end are in the contracts of `feed` and `ended`; that `main`, which moves the bytes, writes no more and no less is read, not stated.
 use mathlib.Core.Path.{◌≡◌, refl, sym, ap, ap₂, ◌∙◌, subst}
 use mathlib.Core.Bool.{Bool, true, false}
-use mathlib.Core.List.{List, [], ◌∷◌, ◌++◌}
-use Prim.Native.Nat.{ℕ, zero, suc, ◌+◌, ◌-◌, ◌≤◌, ◌<◌, min}
+use mathlib.Core.List.{List, ◌∷◌}
+use Prim.Native.Nat.{ℕ, zero, suc, ◌+◌, ◌≤◌, ◌<◌, min}
 use native.Mathlib.Omega.{arith}
 use borrow.Author.Tests.{le-leb, leb-true, leb-false}
 use lib.Dec.{leb}
-use lib.ListN.{length, get_or, take, drop, replicate, length-replicate, get_or-replicate}
-use lib.Seq.{sets, sets-eq, take_at}
-use Rattle.language.specs.Bindings.{Got, got, lost, after}
+use lib.ListN.{length, take, drop, replicate, length-replicate, get_or-replicate}
+use lib.Seq.{sets-eq, take_at}
+use Rattle.language.specs.Bindings.{got, after}
 use Rattle.language.specs.Reading.{Answer, accepted, Reads}
 use Rattle.language.specs.Sizes.{Setting}
 use Rattle.language.specs.Meaning.{cell_widths}
-use Rattle.language.specs.Worked.{line, is_bad, any_number, cycles, Input, input_of, answered, Writes, writes_bad, writes}
+use Rattle.language.specs.Worked.{any_number, cycles, Input, input_of, answered, Writes, writes_bad, writes}
 use Rattle.row13_plan.specs.Made.{table_after as table_with}
 use Rattle.plan_of.specs.PlanOf.{plan_of}
 use Rattle.plan_of.proofs.Theorems.{reads_planned}
@@ -26,7 +26,7 @@ use Rattle.input_bytes.specs.Lines.{cells_of}
 use Rattle.cycle_line.specs.Shown.{ports_of}
 use Rattle.input_bytes.specs.Bytes.{Machine}
 use Rattle.tipirun.specs.Machine.{Prints}
-use Rattle.tipirun.specs.Statement.{HasRoom, Worked, as-01, row-13}
+use Rattle.tipirun.specs.Statement.{Worked, as_01, row_13}
 use Rattle.input_bytes.proofs.Numbers.{line_end}
 use Rattle.tipirun.proofs.Opening.{Ready}
 use Rattle.tipirun.proofs.LineValues.{Slots}
@@ -104,14 +104,14 @@ pub worked : (input out : List ℕ) → length input < 18_446_744_073_709_551_61
 worked input out h x = go (shown input out h x)
   where
     go : Shown input out → Worked input out
-    go (as_told h w) = as-01 h w
-    go (thirteen s e r l f) = row-13 s e r l f
+    go (as_told h w) = as_01 h w
+    go (thirteen s e r l f) = row_13 s e r l f
     go (cycles_come {i = i} {r = r} s m k y e a l q f g z) =
         let t = agrees_so i.actor i.bindings s a in
         let n = min k 18_446_744_073_709_551_615 in
         let cells : List ℕ = replicate (length (cell_widths s)) 0 in
         let slots : List ℕ = replicate (length s.actor.signature) 0 in
-        as-01 (this_one s e a l)
+        as_01 (this_one s e a l)
         (subst (Writes input)
         (g ∙ sym (cycles_run s t n m (start_of m.state Line n) cells slots y out (first_stands s t m n l q) refl z
         ∙ least_cycles s k 18_446_744_073_709_551_615 cells slots y (few_bytes input 18_446_744_073_709_551_615 i r k y h e f)))
@@ -133,10 +133,10 @@ writes_once input o q (writes {i = i} {r = r} x e a) (writes {i = j} {r = s} y f
     ap₂ answered (same_texts x y u a b) v
 
 pub worked_once : (input o q : List ℕ) → Worked input o → Worked input q → o ≡ q
-worked_once input o q (as-01 h w) (as-01 k x) = writes_once input o q w x
-worked_once input o q (as-01 h w) (row-13 s e a l f) = absurd (let n = h.fits s e a in omega arith)
-worked_once input o q (row-13 s e a l f) (as-01 h w) = absurd (let n = h.fits s e a in omega arith)
-worked_once input o q (row-13 s e a l f) (row-13 t g b m k) = f ∙ sym k
+worked_once input o q (as_01 h w) (as_01 k x) = writes_once input o q w x
+worked_once input o q (as_01 h w) (row_13 s e a l f) = absurd (let n = h.fits s e a in omega arith)
+worked_once input o q (row_13 s e a l f) (as_01 h w) = absurd (let n = h.fits s e a in omega arith)
+worked_once input o q (row_13 s e a l f) (row_13 t g b m k) = f ∙ sym k
 
 -- every input has an output
 pub worked_some : (input : List ℕ) → length input < 18_446_744_073_709_551_615 → (out : List ℕ) × Worked input out

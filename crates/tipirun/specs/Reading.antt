@@ -1,5 +1,5 @@
 -- Numbers and texts as they are read, byte by byte. Assumes nothing: these are definitions.
-use Rattle.std.specs.Prelude.{◌≡◌, false, List, ℕ, ◌-◌}
+use Rattle.std.specs.Prelude.{◌≡◌, false, List, ℕ}
 use Rattle.language.specs.Reading as Reading
 use Rattle.language.specs.Reading.{Reads}
 use Rattle.tipi.specs.Told.{answer_of, table_after}

@@ -1,0 +1,16 @@
+-- `item_writes::writes::bound` meets its contract. Assumes nothing.
+use mathlib.Core.Path.{ap, ◌∙◌}
+use Prim.Native.Nat.{ℕ}
+use native.Mathlib.Omega.{arith}
+use Rattle.language.specs.Widths.{value_in}
+use Rattle.sized_constants.specs.Constant.{amount_of}
+use Rattle.placed.specs.Placed.{name_from}
+use Rattle.row09_bindings.specs.Lines.{lines_on}
+use Rattle.item_writes.proofs.Writing.{small_amount}
+use Rattle.item_writes.proofs.writes.bound.Goals as goal
+
+pub returns : goal.returns
+returns c =
+    let t = c in
+    let l = lines_on t.args.btext.now t.args.table.now t.args.lines.widths t.args.lines.values in
+    c.amount.ensures _ (small_amount c.value-x.result (omega (arith, c.value-x.type_inv)) ∙ ap amount_of (c.value-x.ensures ∙ ap (λ (q : ℕ). value_in l (name_from t.args.text.now q)) c.wide.ensures))

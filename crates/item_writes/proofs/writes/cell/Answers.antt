@@ -1,0 +1,15 @@
+-- `item_writes::writes::cell` meets its contract. Assumes nothing.
+use Rattle.item_writes.specs.Walk.{around_of}
+use Rattle.item_writes.specs.Tables.{numbers_of}
+use Rattle.item_writes.proofs.Writing.{cell_looked}
+use Rattle.item_writes.proofs.writes.cell.Goals as goal
+
+pub returns : goal.returns
+unfolding numbers_of around_of
+returns c =
+    let t = c.args in
+    record {
+      is = λ btext table lines s.
+          cell_looked (around_of t.text.now t.tape.now t.many btext table lines t.widths.now) s t.op t.place _ _ _ _ _ _ c.numbered-k.ensures.0
+          c.cells_before.ensures c.narrow-first.ensures (c.memory_width-w.ensures.is btext table lines s) c.narrow.ensures c.size_of.ensures;
+    }
