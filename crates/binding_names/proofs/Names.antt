@@ -84,6 +84,10 @@ module _ (seen : List (List ℕ)) (s : List ℕ) where
   unfolding may_end
   ends_good e = simp (may_end, e)
 
+-- a byte of a name goes on while the name has under 31 bytes with it
+pub goes_on_short : (text : List ℕ) (seen : List (List ℕ)) (from n : ℕ) → from + n + 1 ≤ length text → name_byte (get_or text (from + n) 0) ≡ true → n + 1 < 31 → true ≡ (name_byte (get_or text (from + n) 0) && may_go_on seen (take (n + 1) (drop from text)))
+goes_on_short text seen from n h e s = let l = run_length text from (n + 1) (omega arith) in sym (both_is _ _ e ∙ goes_short seen _ (omega (arith, l, s)))
+
 -- a name that may go on has at most 31 bytes
 pub goes_most : (seen : List (List ℕ)) (s : List ℕ) → may_go_on seen s ≡ true → length s ≤ 31
 goes_most seen s e = go (leb (length s) 31) refl

@@ -44,6 +44,7 @@ fn may_end(text: &[u8], table: &[u32], k: usize, from: usize, n: usize) -> bool
 }
 
 // Whether a name of n bytes may have the next byte too.
+#[tactic(auto, using(crate::proofs::Names::goes_on_short))]
 fn goes_on(text: &[u8], table: &[u32], k: usize, from: usize, n: usize) -> bool
     requires { Lent text.now table.now k (from + n + 1) }
     ensures { result ≡ goes_on text.now (names_before text.now table.now k) from n }

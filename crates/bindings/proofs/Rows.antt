@@ -15,11 +15,11 @@ use Rattle.language.specs.Bindings.{Got, got, lost, after, byte, fresh_name, lin
 use Rattle.binding_names.specs.Names.{line_in, lines_in, names_of, Named, name_told, ReadsName}
 use Rattle.bindings.specs.Table.{onto, cells, table_of, roomy, answer_of, table_after}
 use Rattle.binding_numbers.specs.Steps.{ended, valued, value, Reads}
-use Rattle.bindings.specs.Steps.{line_of, line_told, lines_told, count}
+use Rattle.bindings.specs.Steps.{line_of, line_told, lines_told, count, WidthsRead, ReadsLines}
 use Rattle.binding_numbers.specs.declared.Step.{Step}
 use Rattle.binding_numbers.specs.declared.Step.TheVariants.{Went, Lost}
 use Rattle.bindings.specs.declared.Answer.TheVariants.{Bound as IsBound, Wrong, NoRoom}
-use Rattle.binding_numbers.proofs.Numbers.{after_got, after_lost}
+use Rattle.binding_numbers.proofs.Numbers.{after_got, after_lost, went_in, went_small}
 
 -- ---- runs of stores
 
@@ -302,3 +302,22 @@ module _ (text t : List ℕ) where
     pub table_bound : {b : Bindings} → bindings_of text ≡ bound b → table_after text t ≡ sets t 0 (table_of b)
     unfolding table_after
     table_bound f = simp (table_after, e, f)
+
+-- both sections are read: there must be no byte after the second, and then the table holds the lines of both
+module _ (text t ws vs : List ℕ) (w at x v : ℕ) (r : Step) (short : length text ≤ 2048) (wide : 96 ≤ length t) (a : WidthsRead text ws w at) (b : ReadsLines text (section (length text) 65535 (drop at text)) r vs) (e : r ≡ Went x v) where
+  pub place_told : x ≤ 2048
+  place_told = omega (arith, short, went_in b.reads e)
+
+  pub tail_told : x < length text → Wrong x ≡ answer_of text t
+  tail_told h = sym (answer_wrong text t (room text t short wide) (wrong_tail text a.is h (lines_went vs b.reads e)))
+
+  pub tail_table : x < length text → t ≡ table_after text t
+  tail_table h = sym (table_wrong text t (room text t short wide) (wrong_tail text a.is h (lines_went vs b.reads e)))
+
+  pub both_told : length text ≤ x → IsBound w v ≡ answer_of text t
+  both_told h = sym (answer_bound text t (room text t short wide) (right text a.is h (lines_went vs b.reads e)) ∙ rw (length_lines text ws w, length_lines text vs v))
+
+  pub both_table : 48 ≤ length vs → length text ≤ x → sets (sets t 0 (take (3 * w) ws)) (3 * w) (take (3 * v) vs) ≡ table_after text t
+  both_table k h =
+      table_is text t ws vs w v a.named (named_value e b.named) (omega (arith, a.few, a.wide)) (omega (arith, went_small b.reads e, k))
+      ∙ sym (table_bound text t (room text t short wide) (right text a.is h (lines_went vs b.reads e)))

@@ -119,6 +119,7 @@ fn copy(from: &[u32], n: usize, table: &mut [u32], at: usize)
 }
 
 // Reads the section of values after that of widths, and copies both when the whole text is right.
+#[tactic(auto, using(crate::proofs::Rows::place_told, crate::proofs::Rows::tail_told, crate::proofs::Rows::tail_table, crate::proofs::Rows::both_told, crate::proofs::Rows::both_table))]
 fn values_after(text: &[u8], table: &mut [u32], widths: &[u32], w: usize, at: usize) -> Answer
     requires widths_read { WidthsRead text.now widths.now w at }
     requires text_len_bound { (length text.now ≤ limits.bindings) × (most_numbers ≤ length table.old) }

@@ -1,17 +1,18 @@
 -- A cycle's line as it is written. Assumes nothing.
-use mathlib.Core.Path.{◌≡◌, refl, sym, ap, ap₂, ◌∙◌, subst}
+use mathlib.Core.Path.{◌≡◌, refl, sym, ap, ap₂, ◌∙◌}
 use mathlib.Core.Bool.{Bool, true, false}
 use mathlib.Core.List.{List, [], ◌∷◌, ◌++◌}
-use Prim.Native.Nat.{ℕ, zero, suc, ◌+◌, ◌-◌, ◌*◌, ◌≤◌, ◌<◌}
+use Prim.Native.Nat.{ℕ, suc, ◌+◌, ◌-◌, ◌*◌, ◌≤◌, ◌<◌}
 use native.Mathlib.Omega.{arith}
-use borrow.Author.Tests.{lt-ltb, le-ltb, eq-eqb, ne_eqb, ltb-true, ltb-false}
-use lib.Dec.{eqb, ltb}
-use lib.ListN.{length, get_or, take, drop}
+use borrow.Author.Tests.{lt-ltb, le-ltb, eq-eqb, ne_eqb}
+use lib.Dec.{ltb}
+use lib.ListN.{length, get_or, set, length-append}
+use lib.Seq.{sets}
 use Rattle.language.specs.Worked.{decimal, line}
 use Rattle.plan.specs.Layout.{port_at, port_count}
 use Rattle.figures.specs.Written.{Wrote, blanked}
 use Rattle.cycle_line.specs.Shown.{ports_of, output_of, outputs_from, shown_of}
-use Rattle.figures.proofs.Bytes.{line_is, named, nothing, Rest}
+use Rattle.figures.proofs.Bytes.{line_is, named, nothing, sets_append, Rest}
 
 -- ---- ports
 
@@ -71,3 +72,10 @@ module _ (p o : List ℕ) where
       ap₂ (λ (n m : ℕ). decimal n ++ ((32 ∷ decimal m) ++ (blanked (outputs_from p o (ports_of p) 0) ++ (10 ∷ [])))) e f
       ∙ ap (λ (r : List ℕ). decimal a ++ (32 ∷ r)) (sym (line_is c (outputs_from p o (ports_of p) 0)))
       ∙ whole_line a c h
+
+  -- a refused cycle's line, by its length and as it is written: a tactic takes what a reader of numbers promises apart
+  pub refused_long : (a c : ℕ) → (a ≡ 0 → ⊥) → length (shown_of p a c o) ≡ length (decimal a) + 1
+  refused_long a c h = ap length (sym (shown_refused a c a refl h)) ∙ length-append (decimal a) (10 ∷ [])
+
+  pub refused_sets : (l : List ℕ) (at a c : ℕ) → (a ≡ 0 → ⊥) → sets l at (shown_of p a c o) ≡ set (sets l at (decimal a)) (at + length (decimal a)) 10
+  refused_sets l at a c h = ap (sets l at) (sym (shown_refused a c a refl h)) ∙ sets_append l at (at + length (decimal a)) (decimal a) (10 ∷ []) refl

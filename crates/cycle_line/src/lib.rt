@@ -50,6 +50,7 @@ fn show_outputs(plan: &[u32], outputs: &[u64], out: &mut [u8], at: usize) -> usi
 }
 
 // The line of a cycle: its answer; if that is 0 the number of present ports and the outputs too.
+#[tactic(auto, using(crate::proofs::Cycles::refused_long, crate::proofs::Cycles::refused_sets))]
 pub fn show(
     plan: &[u32],
     answer: u32,

@@ -199,6 +199,10 @@ run_is text at n e =
     let z : at + n - at ≡ length (span name_byte (drop at text)) = omega (arith, e) in
     rw z (span_taken name_byte (drop at text))
 
+-- what is spelled as a row is no name
+pub own_none : (text : List ℕ) (at n row : ℕ) → n ≡ length (span (test_of 1) (drop at text)) → row ≡ index (spellings fixed_names) (take (at + n - at) (drop at text)) → row < 21 → false ≡ own_name (span name_byte (drop at text))
+own_none text at n row e k h = let i = ap (index (spellings fixed_names)) (run_is text at n e) in sym (own_fixed _ (omega (arith, i, k)))
+
 pub span_head : (t : ℕ → Bool) (text : List ℕ) (at : ℕ) → at < length text → t (get_or text at 0) ≡ true → get_or (span t (drop at text)) 0 0 ≡ get_or text at 0
 unfolding span
 span_head t text at h e = rw (drop-cons text at 0 h) (simp (span, e))

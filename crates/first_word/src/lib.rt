@@ -12,6 +12,7 @@ ghost use Rattle.signs.specs.Tells.{Tells};
 use signs::{Item, kinds};
 
 // Whether a name stands at a place, and no keyword nor a word of row 4.
+#[tactic(auto, using(crate::proofs::Spelled::own_none))]
 fn own_name(text: &[u8], at: usize) -> bool
     requires { at ≤ length text.now }
     ensures { result ≡ own_name (span_of name_byte (drop at text.now)) }

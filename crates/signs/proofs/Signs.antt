@@ -107,3 +107,11 @@ module _ (bs : List ℕ) (row : ℕ) (h : row < 40) where
 pub sign_none : (bs : List ℕ) (row : ℕ) → 40 ≤ row → first_of_law (drop row signs) (λ s. begins s bs) ≡ first_of_law signs (λ s. begins s bs) → sign_next bs ≡ wrong
 unfolding sign_next first_of_law
 sign_none bs row h e = let f : first_of_law signs (λ s. begins s bs) ≡ none = sym e ∙ rw (drop_of_length-le signs {i = row} (omega (arith, signs_many, h))) in simp (sign_next, f)
+
+-- where a sign of a row stands, and none of a row before it, the word is that sign, of two bytes in the rows of the pairs and of one after them
+module _ (text : List ℕ) (at row r : ℕ) (l : at < length text) (h : row < 40) (e : begins (sign_of row) (drop at text) ≡ true) (f : first_of_law (drop row signs) (λ s. begins s (drop at text)) ≡ first_of_law signs (λ s. begins s (drop at text))) (k : r ≡ sign_kind row) where
+  pub pair_tells : row < 13 → Tells text at (sign_next (drop at text)) (IsWord r 2 0)
+  pair_tells p = rw k (sign_tells (drop at text) row h text at 2 l refl e (sym f ∙ first_here _ row h e) (long_two row h p) (omega arith))
+
+  pub single_tells : 13 ≤ row → Tells text at (sign_next (drop at text)) (IsWord r 1 0)
+  single_tells p = rw k (sign_tells (drop at text) row h text at 1 l refl e (sym f ∙ first_here _ row h e) (long_one row h p) (omega arith))

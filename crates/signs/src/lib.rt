@@ -63,6 +63,7 @@ fn sign_kind(row: usize) -> u32
 }
 
 // An operator or punctuation, the longest first.
+#[tactic(auto, using(crate::proofs::Signs::pair_tells))]
 pub fn sign(text: &[u8], at: usize) -> Item
     requires { at < length text.now }
     ensures { Tells text.now at (sign_next (drop at text.now)) result }

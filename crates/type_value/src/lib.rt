@@ -141,6 +141,7 @@ fn step(node: u32, ws: &[u32], cells: &mut [u64; CELLS], n: usize) -> usize
 }
 
 // The value that waits alone, where floor takes it; else 0.
+#[tactic(auto, using(crate::proofs::Tested::alone_not_one))]
 fn only(cells: &[u64; CELLS], n: usize) -> Exact
     ensures { result ≡ alone (waiting cells.now n) }
 {

@@ -2,19 +2,11 @@
 use native.Mathlib.Omega.{arith}
 use mathlib.Core.Path.{sym, ◌∙◌}
 use Prim.Native.Nat.{◌+◌}
-use Rattle.binding_names.proofs.Names.{both_false, both_is, goes_short, goes_long, goes_last, run_length}
+use Rattle.binding_names.proofs.Names.{both_false, both_is, goes_long, goes_last, run_length}
 use Rattle.binding_names.proofs.goes_on.Goals as goal
 
 pub returns-then-not-is_name_byte : goal.returns-then-not-is_name_byte
 returns-then-not-is_name_byte c = sym (both_false _ _ (sym c.is_name_byte.ensures ∙ c.if-not-is_name_byte.true))
-
-pub returns-then-n-lt-NAME : goal.returns-then-n-lt-NAME
-returns-then-n-lt-NAME c =
-    let args = c.args in
-    let l = run_length args.text.now args.from (args.n + 1) (omega arith) in
-    sym
-    (both_is _ _ (sym c.is_name_byte.ensures ∙ c.if-not-is_name_byte.false) ∙ goes_short _ _
-    (omega (arith, l, c.if-n-lt-NAME.true)))
 
 pub returns-then-n-gt-NAME : goal.returns-then-n-gt-NAME
 returns-then-n-gt-NAME c =
@@ -34,4 +26,4 @@ returns c =
     let l = run_length args.text.now args.from (args.n + 1) (omega arith) in
     c.may_end.ensures ∙ sym
     (both_is _ _ (sym is-name-byte.ensures ∙ if1.false) ∙ goes_last _ _
-    (omega (arith, l, c.if-n-gt-NAME.false, c.if-n-lt-NAME.false)))
+    (omega (arith, l)))

@@ -1,19 +1,15 @@
 -- `show` meets its contract. Assumes nothing.
 use native.Mathlib.Omega.{arith}
 use Rattle.figures.proofs.Bytes.{both, renamed}
-use Rattle.cycle_line.proofs.Cycles.{shown_refused, shown_whole}
+use Rattle.cycle_line.proofs.Cycles.{shown_whole}
 use Rattle.cycle_line.proofs.show.Goals as goal
-
-pub returns-then-answer-ne0 : goal.returns-then-answer-ne0
-returns-then-answer-ne0 c = renamed (both c.number-k.ensures c.put.ensures) (shown_refused _ _ _ _ _ c.wide.ensures c.if-answer-ne0.true) (omega arith)
 
 pub returns : goal.returns
 returns c =
     let wide = c.wide in
     let number = c.number-k in
-    let if1 = c.if-answer-ne0 in
     let wide2 = c.wide-2 in
     let next_number = c.next_number-m in
     let show-outputs = c.show_outputs-e in
     renamed (both number.ensures (both next_number.ensures (both show-outputs.ensures c.put-2.ensures)))
-    (shown_whole _ _ _ _ _ _ wide.ensures wide2.ensures if1.false) (omega arith)
+    (shown_whole _ _ _ _ _ _ wide.ensures wide2.ensures (omega arith)) (omega arith)

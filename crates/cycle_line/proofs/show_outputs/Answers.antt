@@ -1,6 +1,6 @@
 -- `show_outputs` meets its contract: what is left is written after what was. Assumes nothing.
 use mathlib.Core.Path.{ap}
-use Prim.Native.Nat.{ℕ, ◌-◌}
+use Prim.Native.Nat.{ℕ}
 use native.Mathlib.Omega.{arith}
 use lib.ListN.{get_or}
 use Rattle.figures.proofs.Bytes.{rest_more, rest_end}
