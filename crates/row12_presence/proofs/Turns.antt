@@ -31,6 +31,10 @@ module _ (m : Met) (op k b : ℕ) where
   unfolding next_of listing
   next_unlisted e n = sym (simp (next_of, e, listing, ne_eqb b 1 n))
 
+  pub next_listed : op ≡ PRESENT → b ≡ 1 → next_of m op k b ≡ record { required = with_port m.required k; assigned = m.assigned; everywhere = m.everywhere; earlier = m.earlier }
+  unfolding next_of listing
+  next_listed e n = rw (e, n)
+
   pub next_same : (op ≡ PRESENT → ⊥) → (op ≡ ASSIGN → ⊥) → (op ≡ RULED → ⊥) → (op ≡ OR → ⊥) → m ≡ next_of m op k b
   unfolding next_of
   next_same p a r o = sym (simp (next_of, ne_eqb op PRESENT p, ne_eqb op ASSIGN a, ne_eqb op RULED r, ne_eqb op OR o))

@@ -55,6 +55,7 @@ fn at_fault(op: u32, port: u32, met: Met) -> bool
 }
 
 // The sets after an item; an entry of a rule's list is listed as present by 1.
+#[tactic(auto, using(crate::proofs::Turns::next_unlisted, crate::proofs::Turns::next_listed))]
 fn met_after(op: u32, port: u32, listed: u32, met: Met) -> Met
     ensures { result ≡ next_of met op port listed }
 {

@@ -1,14 +1,7 @@
 -- `row12_presence::met_after` meets its contract: by its operation, the sets after the item. Assumes nothing.
-use Rattle.row12_presence.specs.Walk.{next_of, listing, assigning, ending, grouping}
-use Rattle.row12_presence.proofs.Turns.{next_unlisted, next_same}
+use Rattle.row12_presence.specs.Walk.{next_of, assigning, ending, grouping}
+use Rattle.row12_presence.proofs.Turns.{next_same}
 use Rattle.row12_presence.proofs.met_after.Goals as goal
-
-pub returns-then-listed-ne1 : goal.returns-then-listed-ne1
-returns-then-listed-ne1 c = next_unlisted _ _ _ _ c.in-38.is c.if-listed-ne1.true
-
-pub returns-else-listed-ne1 : goal.returns-else-listed-ne1
-unfolding next_of listing
-returns-else-listed-ne1 c = rw (c.in-38.is, c.if-listed-ne1.false, c.with_port.ensures)
 
 pub returns-in-33 : goal.returns-in-33
 unfolding next_of assigning
