@@ -1,7 +1,7 @@
 #!/usr/bin/env python3
 """The smallest stack, in KB, with which the program first_fault carries 8,192 bytes of each kind of nesting through rows 1 to 5. Not a test.
 
-    rt run first_fault < crates/first_fault/stdin && bench/stack.py crates/first_fault/out/first_fault
+    (cd crates/first_fault && rt run < stdin) && bench/stack.py crates/first_fault/out/first_fault
 """
 import resource, subprocess, sys
 

@@ -1,7 +1,7 @@
 #!/bin/sh
 # Compares the program tipirun with evaluator.rs, a second one written from document 01 and the manual alone, which walks the tree and knows no plan:
 # random actors and damaged ones, edges written by hand, a word at each place, every operator, the longest actors. Some 6,000 inputs and 60,000
-# values, in about half a minute. Ends with status 1 where the two differ. After `rt run tipirun`:
+# values, in about half a minute. Ends with status 1 where the two differ. After `rt run` in crates/tipirun:
 #
 #     tests/evaluator/compare.sh
 set -eu
