@@ -17,6 +17,7 @@ pub enum Step {
 }
 
 // The number with one digit more, or 0 where the byte may not follow.
+#[tactic(auto, using(crate::proofs::Numbers::grown_zero))]
 fn grown(n: usize, b: u8, most: usize) -> usize
     requires { (n ≤ limits.typeNumber) × (most ≤ limits.typeNumber) }
     ensures { result ≡ grown_of most n b }

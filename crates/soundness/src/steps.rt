@@ -26,6 +26,7 @@ pub enum Assigned {
 }
 
 // A width in place of the latest k.
+#[tactic(auto, using(crate::proofs::Laws::over_full))]
 fn push_over(ws: &mut [u32], n: usize, k: usize, w: u32, assigned: u32) -> Next
     requires { Standing ws.old n assigned × (length ws.old ≡ waiting) }
     ensures { Pushed k (Of w) n assigned ws.old ws.new result }

@@ -1,6 +1,6 @@
 -- Laws of bytes, runs and fixed words, on numbers and lists alone. Assumes nothing.
 use mathlib.Core.Path.{◌≡◌, refl, sym, ap, ◌∙◌}
-use mathlib.Core.Bool.{Bool, true, false, not, ◌&&◌, ◌||◌}
+use mathlib.Core.Bool.{Bool, true, false, ◌&&◌, ◌||◌}
 use mathlib.Core.List.{List, [], ◌∷◌, ◌++◌}
 use mathlib.Core.Logic.{◌⊎◌, inl, inr}
 use Prim.Native.String.{String}
@@ -14,7 +14,6 @@ use lib.Seq.{drop-cons}
 use borrow.Author.Tests.{leb-true, leb-false, eqb-true, le-leb, lt-leb, lt-ltb, le-ltb, eq-eqb, ne_eqb}
 use Rattle.language.specs.Text.{same, index, among}
 use Rattle.language.specs.Words.{bytes, digit, letter, plain_byte, some_of, good_name, spellings, keywords}
-use Rattle.language.specs.Limits.{limits}
 use Rattle.spelling.specs.Fixed.{fixed_names, row_of}
 
 pub never : {A : Type 0} → true ≡ false → A

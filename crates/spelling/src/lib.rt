@@ -125,6 +125,7 @@ fn some_plain(run: &[u8]) -> bool
 }
 
 // Whether a run is a name.
+#[tactic(auto, using(crate::proofs::Laws::good_long, crate::proofs::Laws::good_keyword))]
 pub fn good_name(run: &[u8]) -> bool
     ensures { result ≡ good_name run.now }
 {

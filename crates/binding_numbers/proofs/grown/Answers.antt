@@ -1,15 +1,12 @@
 -- `binding_numbers::grown` meets its contract. Assumes nothing.
 use native.Mathlib.Omega.{arith}
 use mathlib.Core.Path.{sym, ◌∙◌}
-use Rattle.binding_numbers.proofs.Numbers.{grown_letter, grown_zero, grown_over, grown_to}
+use Rattle.binding_numbers.proofs.Numbers.{grown_letter, grown_over, grown_to}
 use Rattle.spelling.proofs.Laws.{digit_low, digit_high}
 use Rattle.binding_numbers.proofs.grown.Goals as goal
 
 pub returns-then-not-is_digit : goal.returns-then-not-is_digit
 returns-then-not-is_digit c = sym (grown_letter _ _ _ (sym c.is_digit.ensures ∙ c.if-not-is_digit.true))
-
-pub returns-then-n-eq0 : goal.returns-then-n-eq0
-returns-then-n-eq0 c = sym (grown_zero _ _ _ c.if-n-eq0.true)
 
 pub overflow_sub-m : goal.overflow_sub-m
 overflow_sub-m c = digit_low _ (sym c.is_digit.ensures ∙ c.if-not-is_digit.false)

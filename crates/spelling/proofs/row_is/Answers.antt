@@ -1,7 +1,6 @@
 -- `spelling::row_is` meets its contract: what is left of the word and the run is the same where they are. Assumes nothing.
 use native.Mathlib.Omega.{arith}
 use mathlib.Core.Path.{refl, sym, ◌∙◌}
-use Prim.Native.Nat.{◌-◌}
 use Rattle.spelling.specs.Fixed.{row_of}
 use Rattle.spelling.proofs.Laws.{same_longer, same_here, same_next, same_over, row_short, next_of_law}
 use Rattle.spelling.proofs.row_is.Goals as goal

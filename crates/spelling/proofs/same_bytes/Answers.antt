@@ -1,7 +1,6 @@
 -- `spelling::same_bytes` meets its contract: what is left of the two is the same where they are. Assumes nothing.
 use native.Mathlib.Omega.{arith}
 use mathlib.Core.Path.{refl, sym, ◌∙◌}
-use Prim.Native.Nat.{◌-◌}
 use Rattle.spelling.proofs.Laws.{same_longer, same_here, same_next, same_over}
 use Rattle.spelling.proofs.same_bytes.Goals as goal
 

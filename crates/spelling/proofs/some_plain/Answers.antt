@@ -2,7 +2,7 @@
 use native.Mathlib.Omega.{arith}
 use mathlib.Core.Path.{refl, sym, ap, ◌∙◌}
 use mathlib.Core.List.{List}
-use Prim.Native.Nat.{ℕ, ◌-◌}
+use Prim.Native.Nat.{ℕ}
 use lib.ListN.{drop_of_length-le}
 use Rattle.language.specs.Words.{plain_byte, some_of}
 use Rattle.spelling.proofs.Laws.{some_here, some_next}

@@ -1,7 +1,6 @@
 -- `spelling::spelled` meets its contract: the rows passed and the index in what is left come to the index in all. Assumes nothing.
 use native.Mathlib.Omega.{arith}
 use mathlib.Core.Path.{sym, ◌∙◌}
-use Prim.Native.Nat.{◌-◌}
 use Rattle.language.specs.Words.{spellings}
 use Rattle.spelling.specs.Fixed.{fixed_names, row_of}
 use Rattle.spelling.proofs.Laws.{index_over, index_here, index_next, rows_many}
