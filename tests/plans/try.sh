@@ -15,18 +15,21 @@ sed -n 's/^tipirun: \(.*\)/plan_lines: \1/p' crates.txt >>"$copy/crates.txt"
 cat >"$copy/crates/plan_lines/src/main.rt" <<'END'
 // Each pair of texts on standard input, as `tipi::read` answers: 0 and the plan's numbers, or row, text and place.
 use language::Text;
-use libc::STDIN_FILENO;
-use libc::STDOUT_FILENO;
 use tipi::Answer;
 
+const STDIN: i32 = 0;
+
+const STDOUT: i32 = 1;
+
+#[derive(Clone, Copy)]
 struct Numeral {
     value: usize,
     next: usize,
 }
 
 fn say(n: u32, end: &[u8]) {
-    io::print_decimal(STDOUT_FILENO, n as u64);
-    io::write_all(STDOUT_FILENO, end);
+    io::print_decimal(STDOUT, n as u64);
+    io::write_all(STDOUT, end);
 }
 
 fn count(all: &[u8], from: usize) -> Numeral {
@@ -54,7 +57,7 @@ fn show(plan: &[u32], n: usize) {
         say(plan[i], b" ");
         i += 1;
     }
-    io::write_all(STDOUT_FILENO, b"\n");
+    io::write_all(STDOUT, b"\n");
 }
 
 fn told(actor: &[u8], bindings: &[u8]) {
@@ -88,7 +91,7 @@ fn both(all: &[u8], at: usize) -> usize {
 
 fn main() {
     let mut buffer = [0u8; 2097152];
-    let n = io::read_full(STDIN_FILENO, &mut buffer);
+    let n = io::read_full(STDIN, &mut buffer);
     let mut at = 0;
     while at < n {
         at = both(&buffer[..n], at);
@@ -97,12 +100,12 @@ fn main() {
 END
 python3 tests/plans/inputs.py made "$copy/made" "${3:-600}" "${4:-20001}"
 python3 tests/plans/inputs.py asked "$lines" "$copy/crates/plan_lines" "$folder"/*.in "$copy/made"/*.in
-# the interpreter gives up after ten million steps, and the last of the four ways is slow: what counts is the compiled program
-(cd "$copy" && rt try plan_lines) >"$copy/said" 2>&1 || true
-if grep -q '^ok: the native program at -O3' "$copy/said"; then
+# what counts is the compiled program; the interpreter may give up, which is told on standard error
+(cd "$copy/crates/plan_lines" && timeout 300 rt try <stdin >"$copy/said" 2>"$copy/how") || true
+if [ -s "$copy/said" ] && cmp -s "$copy/said" "$copy/crates/plan_lines/stdout"; then
     echo "the same"
 else
-    cut -c1-600 "$copy/said"
+    tail -3 "$copy/how" | cut -c1-600
     echo "not the same"
     exit 1
 fi
