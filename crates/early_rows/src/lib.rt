@@ -12,7 +12,6 @@ ghost use Rattle.early_rows.specs.Verdicts.{TextsHeld, FirstTold};
 
 use bindings::Lines;
 use language::Text;
-use words::Place;
 
 // The first fault, with its row, text and place, or none.
 #[derive(Clone, Copy)]
@@ -35,23 +34,23 @@ pub fn first(
     ensures { FirstTold text.now tape.now n btext.now table.now lines result }
 {
     match row06_names::fault(text, tape, n) {
-        Place::At(p) => return Verdict::Stopped(6, Text::Actor, p),
-        Place::Nowhere => {}
+        Some(p) => return Verdict::Stopped(6, Text::Actor, p),
+        None => {}
     }
     match row07_limits::fault(text, tape, n) {
-        Place::At(p) => return Verdict::Stopped(7, Text::Actor, p),
-        Place::Nowhere => {}
+        Some(p) => return Verdict::Stopped(7, Text::Actor, p),
+        None => {}
     }
     match row08_types::fault(tape, n) {
-        Place::At(p) => return Verdict::Stopped(8, Text::Actor, p),
-        Place::Nowhere => {}
+        Some(p) => return Verdict::Stopped(8, Text::Actor, p),
+        None => {}
     }
     match row09_bindings::strangers(text, tape, n, btext, table, lines) {
-        Place::At(p) => return Verdict::Stopped(9, Text::Bindings, p),
-        Place::Nowhere => {}
+        Some(p) => return Verdict::Stopped(9, Text::Bindings, p),
+        None => {}
     }
     match row09_bindings::unsettled(text, tape, n, btext, table, lines) {
-        Place::At(p) => Verdict::Stopped(9, Text::Actor, p),
-        Place::Nowhere => Verdict::Through,
+        Some(p) => Verdict::Stopped(9, Text::Actor, p),
+        None => Verdict::Through,
     }
 }

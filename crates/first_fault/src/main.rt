@@ -62,11 +62,11 @@ fn part_end(len: usize, from: usize, n: usize) -> usize
 // The value of a sized constant.
 fn say_constant(actor: &[u8], at: u32) {
     match sized_constants::constant(actor, at as usize) {
-        sized_constants::Amount::Exact(x) => {
+        Some(x) => {
             io::print_decimal(STDOUT, x);
             io::write_all(STDOUT, b" ");
         }
-        sized_constants::Amount::TooBig => {
+        None => {
             io::write_all(STDOUT, b"big ");
         }
     }
@@ -121,8 +121,8 @@ fn told(actor: &[u8], table: &[u32], words: u32) {
         return;
     }
     match words::left_out(table, n) {
-        words::Place::At(p) => fault_at(4, p),
-        words::Place::Nowhere => {
+        Some(p) => fault_at(4, p),
+        None => {
             show(actor, table, n);
             read(actor);
         }
@@ -131,9 +131,9 @@ fn told(actor: &[u8], table: &[u32], words: u32) {
 
 fn actor_fault(actor: &[u8], table: &mut [u32]) {
     match words::words(actor, table) {
-        words::Found::Words(n) => told(actor, table, n),
-        words::Found::Bad(p) => fault_at(3, p),
-        words::Found::NoRoom => read(actor),
+        Ok(n) => told(actor, table, n),
+        Err(words::Fault::Bad(p)) => fault_at(3, p),
+        Err(words::Fault::NoRoom) => read(actor),
     }
 }
 

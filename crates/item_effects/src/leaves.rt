@@ -4,7 +4,6 @@ ghost use Rattle.size_walk.specs.Effects.{plain_effect, read_effect, big_effect,
 
 use plan::Item;
 use size_walk::{Effect, Emits, Seen, gives, tested};
-use words::Place;
 
 const WIDE: u32 = language::Expression::WIDTH;
 
@@ -44,7 +43,7 @@ pub fn plain(p: u32, value: u32) -> Effect
         0,
         w,
         p,
-        Place::Nowhere,
+        None,
         Emits::Adds(Item::Const(w, value, 0)),
     )
 }
@@ -52,7 +51,7 @@ pub fn plain(p: u32, value: u32) -> Effect
 pub fn read(p: u32, port: u32, w: u32) -> Effect
     ensures { result ≡ read_effect p port w }
 {
-    gives(0, w, p, Place::Nowhere, Emits::Adds(Item::Port(port)))
+    gives(0, w, p, None, Emits::Adds(Item::Port(port)))
 }
 
 pub fn used(p: u32, slot: u32, seen: Seen) -> Effect
@@ -62,7 +61,7 @@ pub fn used(p: u32, slot: u32, seen: Seen) -> Effect
         0,
         seen.held,
         p,
-        Place::Nowhere,
+        None,
         Emits::Adds(Item::Let(slot)),
     )
 }

@@ -17,7 +17,6 @@ use settled::{
 };
 use size_walk::{Effect, Emits, Seen, ends};
 pub use steps::{effect_at, emitted, ended, hold, left, part, seen};
-use words::Place;
 
 // What a settled item does: by its operation, its place and its four operands.
 fn effect(op: u32, p: u32, a: u32, b: u32, c: u32, d: u32, seen: Seen) -> Effect
@@ -47,6 +46,6 @@ fn effect(op: u32, p: u32, a: u32, b: u32, c: u32, d: u32, seen: Seen) -> Effect
         WRITE => size_walk::write(a, b, c, d, seen),
         TYPED => size_walk::typed(p, a, d, seen),
         VAL => size_walk::val(a, seen),
-        _ => ends(0, Place::Nowhere, Emits::Nothing),
+        _ => ends(0, None, Emits::Nothing),
     }
 }

@@ -5,7 +5,6 @@ ghost use Rattle.size_walk.specs.Effects.{has, unary_wide, binary_wide, copies_e
 
 use plan::Item;
 use size_walk::{Effect, Emits, FAULTY, Seen, ends, faulty, gives, tested};
-use words::Place;
 
 const WIDE: u32 = language::Expression::WIDTH;
 
@@ -24,7 +23,7 @@ pub fn copies(p: u32, n: u32, seen: Seen) -> Effect
     }
     let w = (n as u64) * (seen.x as u64);
     if w <= WIDE as u64 {
-        return gives(1, w as u32, p, Place::Nowhere, emits);
+        return gives(1, w as u32, p, None, emits);
     }
     tested(false, 1, 0, p, p, emits)
 }
@@ -36,7 +35,7 @@ pub fn cell(p: u32, m: u32, first: u32, size: u32, w: u32, seen: Seen) -> Effect
     if WIDE < seen.x {
         return faulty(1, p, emits);
     }
-    gives(1, w, p, Place::Nowhere, emits)
+    gives(1, w, p, None, emits)
 }
 
 pub fn range(p: u32, i: u32, j: u32, seen: Seen) -> Effect
@@ -47,7 +46,7 @@ pub fn range(p: u32, i: u32, j: u32, seen: Seen) -> Effect
         return faulty(1, seen.s, emits);
     }
     if (i < seen.x) & (j < seen.x) {
-        return gives(1, ranges::range_width(i, j), seen.s, Place::Nowhere, emits);
+        return gives(1, ranges::range_width(i, j), seen.s, None, emits);
     }
     tested(false, 1, 0, seen.s, p, emits)
 }
@@ -56,7 +55,7 @@ pub fn range(p: u32, i: u32, j: u32, seen: Seen) -> Effect
 pub fn begun(p: u32, seen: Seen) -> Effect
     ensures { result ≡ begun_effect seen p }
 {
-    gives(1, seen.x, p, Place::Nowhere, Emits::Nothing)
+    gives(1, seen.x, p, None, Emits::Nothing)
 }
 
 // Only here a width over 64 has been kept, as 65.
@@ -89,7 +88,7 @@ pub fn beside(seen: Seen) -> Effect
     if (seen.x == FAULTY) | (seen.y == FAULTY) {
         return faulty(2, seen.t, emits);
     }
-    gives(2, together(seen.y, seen.x), seen.t, Place::Nowhere, emits)
+    gives(2, together(seen.y, seen.x), seen.t, None, emits)
 }
 
 fn unary_width(op: u32, w: u32) -> u32
@@ -108,7 +107,7 @@ pub fn unary(p: u32, op: u32, seen: Seen) -> Effect
     if WIDE < seen.x {
         return faulty(1, p, emits);
     }
-    gives(1, unary_width(op, seen.x), p, Place::Nowhere, emits)
+    gives(1, unary_width(op, seen.x), p, None, emits)
 }
 
 fn binary_width(op: u32, m: u32, n: u32) -> u32
@@ -151,7 +150,7 @@ pub fn choice(start: u32, seen: Seen) -> Effect
     if either(seen.x, seen.y) | (WIDE < seen.z) {
         return faulty(3, start, emits);
     }
-    gives(3, wider(seen.y, seen.x), start, Place::Nowhere, emits)
+    gives(3, wider(seen.y, seen.x), start, None, emits)
 }
 
 pub fn selected(p: u32, seen: Seen) -> Effect
@@ -160,7 +159,7 @@ pub fn selected(p: u32, seen: Seen) -> Effect
     if either(seen.x, seen.y) {
         return faulty(2, p, Emits::Nothing);
     }
-    gives(2, seen.x, p, Place::Nowhere, Emits::Nothing)
+    gives(2, seen.x, p, None, Emits::Nothing)
 }
 
 // The arm's slot is that of the innermost case around.
@@ -173,7 +172,7 @@ pub fn arm(p: u32, label: u32, seen: Seen) -> Effect
     if either(seen.x, seen.y) {
         return faulty(2, p, emits);
     }
-    gives(2, wider(seen.y, seen.x), p, Place::Nowhere, emits)
+    gives(2, wider(seen.y, seen.x), p, None, emits)
 }
 
 // What a case selects by stays where it waits, and is kept too.
@@ -183,7 +182,7 @@ pub fn select(seen: Seen) -> Effect
 {
     ends(
         0,
-        Place::Nowhere,
+        None,
         Emits::Adds(Item::Keep(CASES + seen.cases, seen.x)),
     )
 }

@@ -17,7 +17,6 @@ use crate::nodes::{position, width, without};
 use crate::{Counts, Far, Waits, Written};
 use bindings::Lines;
 use looked_up::{cells_before, count, latest, less, narrow, numbered, size_of, value, width_of};
-use sized_constants::Amount;
 use tape::{
     ACTOR, ASSIGN, BIT, BITS, CELL, Class, DECLARED, DEFAULT, END, GIVEN, GROUPED, INSIDE, LET,
     MEMORY, PRESENT, RANGE, READ, SIGNED, SIZE, TYPED, VAL, VALUE, WRITE, name, said, wide,
@@ -27,11 +26,11 @@ use tape::{
 const OUTPUT: usize = plan::OUTPUT as usize;
 
 // A constant's value in two halves, where 64 bits hold it.
-fn amount(place: u32, x: Amount) -> Written
+fn amount(place: u32, x: Option<u64>) -> Written
     ensures { (n : ℕ) → x ≡ amount_of n → numbers_of result ≡ amount_numbers place n }
 {
     match x {
-        Amount::Exact(n) => Written::Six(
+        Some(n) => Written::Six(
             settled::AMOUNT,
             place,
             (n % 4294967296) as u32,
@@ -39,7 +38,7 @@ fn amount(place: u32, x: Amount) -> Written
             0,
             0,
         ),
-        Amount::TooBig => Written::Six(settled::BIG, place, 0, 0, 0, 0),
+        None => Written::Six(settled::BIG, place, 0, 0, 0, 0),
     }
 }
 
@@ -49,7 +48,7 @@ fn bound(text: &[u8], place: u32, btext: &[u8], table: &[u32], lines: Lines) -> 
     ensures { numbers_of result ≡ amount_numbers place (value_in (lines_on btext.now table.now lines.widths lines.values) (name_from text.now place)) }
 {
     let x = value(text, wide(place), btext, table, lines);
-    amount(place, Amount::Exact(x as u64))
+    amount(place, Some(u64::from(x)))
 }
 
 // A port: its number and its width.

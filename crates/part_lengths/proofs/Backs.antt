@@ -9,8 +9,8 @@ use lib.ListN.{get_or, drop}
 use borrow.Author.Tests.{eq-eqb, ne_eqb, le-leb, lt-leb}
 use Rattle.language.specs.Text.{earliest}
 use Rattle.words.specs.Found.{place_told, earlier_of}
-use Rattle.words.specs.declared.Place.{Place}
-use Rattle.words.specs.declared.Place.TheVariants.{At, Nowhere}
+use Rattle.words.specs.Found.{Place}
+use Rattle.std.specs.Prelude.{Some, None}
 use Rattle.tape.specs.Walk.{op_at, place_at, value_at}
 use Rattle.tape.proofs.Walks.{told_earlier}
 use Rattle.part_lengths.specs.declared.Part.{Part}
@@ -102,11 +102,11 @@ drop_places t (suc k) i zero = let f : 0 - suc k ≡ 0 = omega arith in rw f
 drop_places t (suc k) i (suc m) = let e : suc i + k ≡ i + suc k = omega arith in let f : suc m - suc k ≡ m - k = omega arith in drop_places t k (suc i) m ∙ rw (e, f)
 
 module _ (t : List ℕ) (many i more : ℕ) where
-  pub nth_none : many - i ≤ more → Nowhere ≡ place_told (earliest (first_of (drop more (places_in t i (many - i)))))
+  pub nth_none : many - i ≤ more → None ≡ place_told (earliest (first_of (drop more (places_in t i (many - i)))))
   unfolding places_in first_of earliest place_told
   nth_none h = let e : many - i - more ≡ 0 = omega arith in rw (drop_places t more i (many - i), e)
 
-  pub nth_some : more < many - i → At (get_or t (4 * (i + more) + 1) 0) ≡ place_told (earliest (first_of (drop more (places_in t i (many - i)))))
+  pub nth_some : more < many - i → Some (get_or t (4 * (i + more) + 1) 0) ≡ place_told (earliest (first_of (drop more (places_in t i (many - i)))))
   unfolding places_in first_of earliest place_told
   nth_some h = let e : many - i - more ≡ suc (many - i - more - 1) = omega arith in rw (drop_places t more i (many - i), e)
 
@@ -142,14 +142,14 @@ both_told [] ys = refl
 both_told (x ∷ xs) ys = ap (λ (p : Place). both_of p (place_told (earliest ys))) (told_earlier x xs) ∙ go (place_told (earliest xs)) (place_told (earliest ys)) ∙ ap (earlier_of x) (both_told xs ys) ∙ sym (told_earlier x (xs ++ ys))
   where
     go : (a b : Place) → both_of (earlier_of x a) b ≡ earlier_of x (both_of a b)
-    go Nowhere b = refl
-    go (At q) Nowhere = refl
-    go (At q) (At r) = ap At (omega arith)
+    go None b = refl
+    go (Some q) None = refl
+    go (Some q) (Some r) = ap Some (omega arith)
 
 -- ---- the parts that an item holds
 
 module _ (ps : List ℕ) (limit words start : ℕ) where
-  pub short : words ≤ limit → Nowhere ≡ place_told (earliest (long_in ps limit words start))
+  pub short : words ≤ limit → None ≡ place_told (earliest (long_in ps limit words start))
   unfolding long_in earliest place_told
   short h = sym (simp (long_in, le-leb _ _ h))
 
@@ -161,7 +161,7 @@ module _ (ps : List ℕ) (t : List ℕ) (end last other : ℕ) where
   abbrev Held : Place → Type 0
   Held r = r ≡ place_told (earliest (held_in ps (before t end) last other))
 
-  pub held_none : last ≡ 0 → Held Nowhere
+  pub held_none : last ≡ 0 → Held None
   unfolding held_in earliest place_told
   held_none e = sym (simp (held_in, eq-eqb _ _ e))
 

@@ -1,8 +1,8 @@
 -- The types and whole expressions of a tape: how many words they have, and the place of the first word too many. Assumes nothing: these are definitions.
 use Rattle.std.specs.Prelude.{◌≡◌, Bool, true, false, List, [], ◌∷◌, ◌++◌, ℕ, zero, suc, ◌+◌, ◌*◌, ◌-◌, ◌≤◌, eqb, leb, get_or, drop}
 use Rattle.language.specs.Words.{bytes}
-use Rattle.words.specs.declared.Place.{Place}
-use Rattle.words.specs.declared.Place.TheVariants.{At, Nowhere}
+use Rattle.words.specs.Found.{Place}
+use Rattle.std.specs.Prelude.{Some, None}
 use Rattle.words.specs.Found.{earlier_of}
 use Rattle.tape.specs.Walk.{op_at, place_at, value_at}
 use Rattle.part_lengths.specs.declared.Part.{Part}
@@ -103,5 +103,5 @@ held_in ps l last other =
     ]
 
 unfoldable pub both_of : Place → Place → Place
-both_of (At p) b = earlier_of p b
-both_of Nowhere b = b
+both_of (Some p) b = earlier_of p b
+both_of None b = b

@@ -8,7 +8,6 @@ ghost use Rattle.language.specs.Text.{earliest};
 ghost use Rattle.words.specs.Found.{place_told};
 ghost use Rattle.part_lengths.specs.Parts.{holds_of, own_of, leads_of, lead_in, over_of, both_of, IsWhole, places_in, after_in, long_in, held_in, before, first_of};
 
-use words::Place;
 
 // A type or an expression, gone back over so far: how many parts are still wanted, the words, and the place of the
 // first one once that is found.
@@ -142,7 +141,7 @@ fn whole(tape: &[u32], end: usize) -> Length
 }
 
 // The place of the word that comes so many words after the one at a place.
-fn word_after(table: &[u32], many: usize, place: u32, more: usize) -> Place
+fn word_after(table: &[u32], many: usize, place: u32, more: usize) -> Option<u32>
     requires { 4 * many ≤ length table.now }
     ensures { result ≡ place_told (earliest (after_in (places_in table.now 0 many) place more)) }
 {
@@ -153,50 +152,50 @@ fn word_after(table: &[u32], many: usize, place: u32, more: usize) -> Place
         }
         i += 1;
     }
-    Place::Nowhere
+    None
 }
 
 // The place of the word so many words after word i, if there is one.
-fn nth_place(table: &[u32], many: usize, i: usize, more: usize) -> Place
+fn nth_place(table: &[u32], many: usize, i: usize, more: usize) -> Option<u32>
     requires { (4 * many ≤ length table.now) × (i < many) }
     ensures { result ≡ place_told (earliest (first_of (drop more (places_in table.now i (many - i))))) }
 {
     if many - i <= more {
-        return Place::Nowhere;
+        return None;
     }
     let j = i + more;
-    Place::At(table[4 * j + 1])
+    Some(table[4 * j + 1])
 }
 
 // The first word too many of a part, where it has any.
-fn too_long(table: &[u32], many: usize, part: Length, limit: u32) -> Place
+fn too_long(table: &[u32], many: usize, part: Length, limit: u32) -> Option<u32>
     requires { 4 * many ≤ length table.now }
     ensures { result ≡ place_told (earliest (long_in (places_in table.now 0 many) limit part.words part.start)) }
 {
     let most = wide(limit);
     if part.words <= most {
-        return Place::Nowhere;
+        return None;
     }
     word_after(table, many, part.start, most)
 }
 
 // The earlier of two places, if there is one.
-pub fn both(a: Place, b: Place) -> Place
+pub fn both(a: Option<u32>, b: Option<u32>) -> Option<u32>
     ensures { result ≡ both_of a b }
 {
     match a {
-        Place::At(p) => words::earlier(p, b),
-        Place::Nowhere => b,
+        Some(p) => words::earlier(p, b),
+        None => b,
     }
 }
 
 // The faults of the parts before an item: the last one by a limit, the one before it by another. No limit, 0: no part.
-pub fn held(table: &[u32], many: usize, tape: &[u32], end: usize, last: u32, other: u32) -> Place
+pub fn held(table: &[u32], many: usize, tape: &[u32], end: usize, last: u32, other: u32) -> Option<u32>
     requires { (4 * many ≤ length table.now) × (3 * end ≤ length tape.now) }
     ensures { result ≡ place_told (earliest (held_in (places_in table.now 0 many) (before tape.now end) last other)) }
 {
     if last == 0 {
-        return Place::Nowhere;
+        return None;
     }
     let part = whole(tape, end);
     let first = too_long(table, many, part, last);

@@ -16,7 +16,7 @@ use Rattle.language.specs.Sizes.{Setting, Extent, wide, faulty, faults_of, one_p
 use Rattle.language.specs.Meaning.{port_at}
 use Rattle.language.specs.Text.{earliest}
 use Rattle.words.specs.Found.{place_told}
-use Rattle.words.specs.declared.Place.{Place}
+use Rattle.words.specs.Found.{Place}
 use Rattle.plan.specs.declared.Item.{Item}
 use Rattle.plan.specs.declared.Item.TheVariants.{Keep}
 use Rattle.plan_of.specs.PlanOf.{Slot, extents, width_of, memory_at, code, assignment_code, lets_from, vals_code, body_code}

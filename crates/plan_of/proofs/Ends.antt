@@ -10,8 +10,8 @@ use borrow.Author.Tests.{le-leb, lt-leb, leb-true}
 use Rattle.language.specs.Text.{earliest}
 use Rattle.language.specs.Parts.{each}
 use Rattle.language.specs.Sizes.{Extent, wide, faulty, one_part, two_parts, faults_of, limited}
-use Rattle.words.specs.declared.Place.{Place}
-use Rattle.words.specs.declared.Place.TheVariants.{At, Nowhere}
+use Rattle.words.specs.Found.{Place}
+use Rattle.std.specs.Prelude.{Some, None}
 use Rattle.words.specs.Found.{earlier_of, place_told}
 use Rattle.plan.specs.declared.Item.{Item}
 use Rattle.plan.specs.declared.Item.TheVariants.{Keep, Assign, Write}
@@ -65,8 +65,8 @@ module _ (st : State) (q p k w : ℕ) (items : List ℕ) (is : List Item) where
   unfolding assigned has one_part faults_of shape unless_at sooner_of earliest place_told emits_of each
   end_assign (wide v) h r = go (leb v w) refl
     where
-      step : (b : Bool) → leb v w ≡ b → step_of (after st v q [] r.c r.br r.sp) ASSIGN p k 0 0 w ≡ assigned b Nowhere r.c r.br r.sp
-      step b e = assign_does v [] r.c r.br r.sp ∙ ap₂ (λ (x y : Bool). assigned (not x || y) Nowhere r.c r.br r.sp) (le-leb v 64 h) e
+      step : (b : Bool) → leb v w ≡ b → step_of (after st v q [] r.c r.br r.sp) ASSIGN p k 0 0 w ≡ assigned b None r.c r.br r.sp
+      step b e = assign_does v [] r.c r.br r.sp ∙ ap₂ (λ (x y : Bool). assigned (not x || y) None r.c r.br r.sp) (le-leb v 64 h) e
 
       go : (b : Bool) → leb v w ≡ b → Ends (told (faults_of (elim b [ true ↦ wide w | false ↦ faulty (q ∷ []) ]))) (items ++ six ASSIGN p k 0 0 w) (is ++ (Assign k ∷ [])) (IsWide (elim b [ true ↦ wide w | false ↦ faulty (q ∷ []) ])) st.slots st
       go true e = record { c = r.c ++ (12 ∷ k ∷ 0 ∷ 0 ∷ []); br = r.br; sp = r.sp; goes = goes_both r.goes (goes_six ASSIGN p k 0 0 w (step true e)); code = λ y. more r.c st.code is (Assign k ∷ []) (Adds (Assign k)) (r.code tt) refl }
@@ -100,7 +100,7 @@ module _ (st : State) (q s p m f n w : ℕ) (items others : List ℕ) (is js : L
       joins : (b : Bool) → written b (told (faults_of x ++ [])) z.c z.br z.sp ≡ done st (told (faults_of x ++ faults_of (elim b [ true ↦ wide w | false ↦ faulty (s ∷ []) ]))) (z.c ++ (13 ∷ m ∷ f ∷ n ∷ [])) st.slots z.br z.sp
       joins true = refl
       joins false = ap (λ (e : Place). record { widths = st.widths; starts = st.starts; slots = st.slots; code = z.c ++ (13 ∷ m ∷ f ∷ n ∷ []); lengths = st.lengths; first = e; breadth = z.br; start = z.sp; cases = st.cases; rule = st.rule })
-          (ap (λ (l : List ℕ). sooner_of (At s) (sooner_of (told l) st.first)) (append-nil (faults_of x)) ∙ told_after (faults_of x) (s ∷ []) st.first)
+          (ap (λ (l : List ℕ). sooner_of (Some s) (sooner_of (told l) st.first)) (append-nil (faults_of x)) ∙ told_after (faults_of x) (s ∷ []) st.first)
 
       go : (b : Bool) → leb v w ≡ b
           → Ends (told (faults_of x ++ faults_of (elim b [ true ↦ wide w | false ↦ faulty (s ∷ []) ]))) (items ++ (others ++ six WRITE p m f n w)) (is ++ (js ++ (Write m f n ∷ []))) (IsWide x × IsWide (elim b [ true ↦ wide w | false ↦ faulty (s ∷ []) ])) st.slots st
@@ -158,7 +158,7 @@ module _ (st : State) (q p k : ℕ) (items : List ℕ) (is : List Item) where
     abbrev aim : (a b : Bool) → Extent
     aim a b = two_parts (elim a [ true ↦ wide w | false ↦ faulty (p ∷ []) ]) (elim b [ true ↦ wide w | false ↦ faulty (q ∷ []) ]) (λ x y. wide y)
 
-    aimed : (a b : Bool) (c : List ℕ) (br sp : ℕ) → typed a b (a && b) Nowhere c br sp ≡ done st (told (faults_of (aim a b))) (c ++ (11 ∷ k ∷ shape whole (aim a b) ∷ 0 ∷ [])) (set st.slots k (shape whole (aim a b))) br sp
+    aimed : (a b : Bool) (c : List ℕ) (br sp : ℕ) → typed a b (a && b) None c br sp ≡ done st (told (faults_of (aim a b))) (c ++ (11 ∷ k ∷ shape whole (aim a b) ∷ 0 ∷ [])) (set st.slots k (shape whole (aim a b))) br sp
     unfolding typed two_parts faults_of shape pick unless_at sooner_of earliest place_told earlier_of
     aimed true true c br sp = refl
     aimed true false c br sp = refl
@@ -216,7 +216,7 @@ module _ (st : State) (q p k : ℕ) (items : List ℕ) (is : List Item) where
           br = r.br;
           sp = r.sp;
           goes = goes_both r.goes (goes_six TYPED p k 0 0 w (typed_does v [] r.c r.br r.sp
-              ∙ ap (λ (z : Bool). typed (leb w 64) (not z || leb v w) (leb w 64 && leb v w) Nowhere r.c r.br r.sp) (le-leb v 64 h)
+              ∙ ap (λ (z : Bool). typed (leb w 64) (not z || leb v w) (leb w 64 && leb v w) None r.c r.br r.sp) (le-leb v 64 h)
               ∙ aimed (leb w 64) (leb v w) r.c r.br r.sp));
           code = λ y. aimed_code (leb w 64) (leb v w) r.c y (r.code tt);
         }

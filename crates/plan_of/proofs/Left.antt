@@ -10,7 +10,7 @@ use Rattle.language.specs.Text.{earliest}
 use Rattle.language.specs.Parts.{each}
 use Rattle.language.specs.Sizes.{Extent, wide, faulty, one_part, two_parts, faults_of}
 use Rattle.placed.proofs.Every.{each_append}
-use Rattle.words.specs.declared.Place.{Place}
+use Rattle.words.specs.Found.{Place}
 use Rattle.words.specs.Found.{place_told}
 use Rattle.plan.specs.declared.Item.{Item}
 use Rattle.plan.specs.Items.{encode}

@@ -11,8 +11,8 @@ use borrow.Author.Tests.{le-leb, lt-leb, ne_eqb}
 use Rattle.language.specs.Text.{earliest}
 use Rattle.language.specs.Parts.{each}
 use Rattle.language.specs.Sizes.{Extent, wide, faulty, one_part, two_parts, faults_of, limited}
-use Rattle.words.specs.declared.Place.{Place}
-use Rattle.words.specs.declared.Place.TheVariants.{Nowhere}
+use Rattle.words.specs.Found.{Place}
+use Rattle.std.specs.Prelude.{None}
 use Rattle.words.specs.Found.{place_told}
 use Rattle.plan.specs.declared.Item.{Item}
 use Rattle.plan.specs.declared.Item.TheVariants.{Beside, Choice, Keep}
@@ -194,7 +194,7 @@ module _ (st : State) (u t s p o from : ℕ) where
   three_wait c x y i j l k0 k1 k b0 s0 b1 s1 br sp = after (after (after st c u i k0 b0 s0) x t j k1 b1 s1) y s l k br sp
 
   unfoldable pub chooses : (b : Bool) (w : ℕ) → State → State
-  chooses b w z = applied z (through_of b 3 from (Adds Choice) (gives_of 3 w from Nowhere (Adds Choice)))
+  chooses b w z = applied z (through_of b 3 from (Adds Choice) (gives_of 3 w from None (Adds Choice)))
 
   module _ (k0 k1 k : List ℕ) (b0 s0 b1 s1 br sp : ℕ) where
     some_3 : (c x y w : ℕ) → chooses true w (three_wait c x y [] [] [] k0 k1 k b0 s0 b1 s1 br sp) ≡ after st w from [] (k ++ emits_of (Adds Choice)) br sp
@@ -278,7 +278,7 @@ module _ (st : State) (q p : ℕ) where
 
     unfoldable selects : (b : Bool) (x y : ℕ) (k c0 : List ℕ) (br0 sp0 : ℕ) (l c : List ℕ) (br sp : ℕ) → State
     selects b x y k c0 br0 sp0 l c br sp =
-        let e : Effect = through_of b 2 p Nothing (gives_of 2 y p Nowhere Nothing) in
+        let e : Effect = through_of b 2 p Nothing (gives_of 2 y p None Nothing) in
         record {
           widths = one_if e.leaves e.width (drop e.takes (y ∷ x ∷ st.widths));
           starts = one_if e.leaves e.start (drop e.takes (s ∷ q ∷ st.starts));

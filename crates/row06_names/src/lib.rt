@@ -16,7 +16,6 @@ use tape::{
     ASSIGN, Class, DECLARED, END, ENVIRONMENT, MEMORY, PORT, PRESENT, READ, RULED, SIGNED, VAL,
     VALUE, either, from, name, said, wide,
 };
-use words::Place;
 
 // Whether item i is at fault: this rule's items stand from `rule` on, the `let`s in force from `lets` on.
 fn at_fault(text: &[u8], tape: &[u32], many: usize, rule: usize, lets: usize, i: usize) -> bool
@@ -55,11 +54,11 @@ fn at_fault(text: &[u8], tape: &[u32], many: usize, rule: usize, lets: usize, i:
 }
 
 // The earliest place of a faulty item among so many.
-fn walk(text: &[u8], tape: &[u32], many: usize) -> Place
+fn walk(text: &[u8], tape: &[u32], many: usize) -> Option<u32>
     requires { 3 * many ≤ length tape.now }
     ensures { result ≡ place_told (earliest (faults_at text.now tape.now many many)) }
 {
-    let mut first = Place::Nowhere;
+    let mut first = None;
     let mut rule = 0;
     let mut lets = 0;
     let mut i = 0;
@@ -76,7 +75,7 @@ fn walk(text: &[u8], tape: &[u32], many: usize) -> Place
 }
 
 // The earliest place of row 6, where the tape holds the actor of the text.
-pub fn fault(text: &[u8], tape: &[u32], n: usize) -> Place
+pub fn fault(text: &[u8], tape: &[u32], n: usize) -> Option<u32>
     requires { n ≤ length tape.now }
     ensures { (ws : List Word) (a : Actor) → Tells text.now tape.now n ws a → result ≡ place_told (earliest (name_faults a)) }
 {

@@ -19,9 +19,9 @@ use Rattle.placed.proofs.Earliest.{earliest_same}
 use Rattle.words.specs.Found.{place_told, found_of, table_after}
 use Rattle.signs.specs.Kinds.{numbers_of}
 use Rattle.words.specs.Table.{table_of}
-use Rattle.words.specs.declared.Place.{Place}
-use Rattle.words.specs.declared.Found.{Found}
-use Rattle.words.specs.declared.Found.TheVariants.{Words}
+use Rattle.words.specs.Found.{Place}
+use Rattle.words.specs.Found.{Found}
+use Rattle.std.specs.Prelude.{Ok}
 use Rattle.words.proofs.Whole.{room, length_table}
 use Rattle.words.proofs.Back.{until_all}
 use Rattle.words.proofs.Runs.{few_words}
@@ -82,7 +82,7 @@ in_table (fixed s p ∷ ws) = ap (λ (l : List ℕ). p ∷ l) (places_shift _ _ 
 
 -- the words of a text that is short enough, in a table with room for them
 module _ (text t₀ : List ℕ) (short : length text ≤ 8192) (wide : 4 * length text ≤ length t₀) {ws : List Word} (lexed : words_of text ≡ words ws) where
-  pub found_words : found_of text t₀ ≡ Words (length ws)
+  pub found_words : found_of text t₀ ≡ Ok (length ws)
   unfolding found_of
   found_words = simp (found_of, room text t₀ short wide, lexed)
 
@@ -224,14 +224,14 @@ module _ (text t : List ℕ) (n many : ℕ) (k : n ≤ length t) (low : 3 * many
 
 -- what the function answers, by the table that the words were put in
 module _ (text tape t₀ t : List ℕ) (n : ℕ) (k : n ≤ length tape) (wide : 4 * 8192 ≤ length t₀) (e : t ≡ table_after text t₀) {ws : List Word} {a : Actor} (short : length text ≤ 8192) (h : Tells text tape n ws a) where
-  pub row_answer : (many : ℕ) → Words many ≡ found_of text t₀ → {r : Place} → (4 * many ≤ length t → r ≡ place_told (earliest (faults_at (places_in t 0 many) tape (n / 3)))) → r ≡ place_told (earliest (limit_faults ws a))
+  pub row_answer : (many : ℕ) → Ok many ≡ found_of text t₀ → {r : Place} → (4 * many ≤ length t → r ≡ place_told (earliest (faults_at (places_in t 0 many) tape (n / 3)))) → r ≡ place_told (earliest (limit_faults ws a))
   row_answer many f {r} g =
-      let same : Words many ≡ Words (length ws) = f ∙ found_words text t₀ short (omega arith) h.lexed in
+      let same : Ok many ≡ Ok (length ws) = f ∙ found_words text t₀ short (omega arith) h.lexed in
       let all : many ≡ length ws = cc in
       let fits = table_room text t₀ short (omega arith) h.lexed e in
       g (omega arith) ∙ ap (λ (m : ℕ). place_told (earliest (faults_at (places_in t 0 m) tape (n / 3)))) all ∙ ap (λ (l : List ℕ). place_told (earliest (faults_at l tape (n / 3)))) (table_places text t₀ short (omega arith) h.lexed e)
       ∙ earliest_fault text tape n (n / 3) k (omega arith) (omega arith) h
 
   -- every word is good, and there is room for them
-  pub row_never : {x : Found} → ((m : ℕ) → x ≡ Words m → ⊥) → x ≡ found_of text t₀ → ⊥
+  pub row_never : {x : Found} → ((m : ℕ) → x ≡ Ok m → ⊥) → x ≡ found_of text t₀ → ⊥
   row_never f g = f (length ws) (g ∙ found_words text t₀ short (omega arith) h.lexed)

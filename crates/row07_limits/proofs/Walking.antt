@@ -8,8 +8,8 @@ use borrow.Author.Tests.{eq-eqb, ne_eqb}
 use Rattle.language.specs.Text.{earliest}
 use Rattle.language.specs.Names.{when}
 use Rattle.words.specs.Found.{place_told}
-use Rattle.words.specs.declared.Place.{Place}
-use Rattle.words.specs.declared.Place.TheVariants.{Nowhere}
+use Rattle.words.specs.Found.{Place}
+use Rattle.std.specs.Prelude.{None}
 use Rattle.tape.specs.Walk.{op_at, place_at, value_at}
 use Rattle.row07_limits.specs.declared.Room.{Room}
 use Rattle.part_lengths.specs.Parts.{Triple, before, held_in, both_of}
@@ -70,6 +70,6 @@ module _ (t : List ℕ) (i : ℕ) where
   unfolding room_at
   room_more m s e = rw (add-one i) (e ∙ ap₂ (λ (r : Room) (z : ℕ). next_room r (op_at t i) z) m s)
 
-pub no_fault : (ps t : List ℕ) → Nowhere ≡ place_told (earliest (faults_at ps t 0))
+pub no_fault : (ps t : List ℕ) → None ≡ place_told (earliest (faults_at ps t 0))
 unfolding faults_at earliest place_told
 no_fault ps t = refl

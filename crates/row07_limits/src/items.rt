@@ -11,7 +11,6 @@ use part_lengths::{both, held};
 use tape::{
     ASSIGN, BIT, COPIES, DECLARED, MEMORY, OR, RANGE, RULE, RULED, SIGNED, SIZE, TYPED, VAL, WRITE,
 };
-use words::Place;
 
 // The operations of the items that have a limit, or hold what has one.
 const IN_TYPE: u32 = language::Type::WORDS;
@@ -150,18 +149,18 @@ fn other_limit(op: u32, value: u32) -> u32
 }
 
 // A place, where it is at fault.
-fn at(faulty: bool, place: u32) -> Place
+fn at(faulty: bool, place: u32) -> Option<u32>
     ensures { result ≡ place_told (earliest (when faulty place)) }
 {
     if faulty {
-        Place::At(place)
+        Some(place)
     } else {
-        Place::Nowhere
+        None
     }
 }
 
 // The earliest fault of item i.
-pub fn item_fault(table: &[u32], many: usize, tape: &[u32], room: Room, i: usize) -> Place
+pub fn item_fault(table: &[u32], many: usize, tape: &[u32], room: Room, i: usize) -> Option<u32>
     requires { (4 * many ≤ length table.now) × (3 * i + 2 < length tape.now) }
     ensures { result ≡ place_told (earliest (faults_of (places_in table.now 0 many) room tape.now i)) }
 {

@@ -18,7 +18,6 @@ ghost use Rattle.row07_limits.specs.Walk.{faults_at};
 
 use items::{item_fault, next, size};
 use part_lengths::both;
-use words::Place;
 
 // Four numbers for each word, of which a text has at most one to a byte.
 const TABLE: usize = 4 * language::Actor::BYTES as usize;
@@ -35,11 +34,11 @@ struct Room {
 }
 
 // The earliest place of a fault among so many items, by the table of so many words.
-fn walk(table: &[u32], many: usize, tape: &[u32], items: usize) -> Place
+fn walk(table: &[u32], many: usize, tape: &[u32], items: usize) -> Option<u32>
     requires { (4 * many ≤ length table.now) × (3 * items ≤ length tape.now) }
     ensures { result ≡ place_told (earliest (faults_at (places_in table.now 0 many) tape.now items)) }
 {
-    let mut first = Place::Nowhere;
+    let mut first = None;
     let mut room = Room {
         ports: language::Plan::PORTS,
         memories: language::Plan::MEMORIES,
@@ -59,25 +58,24 @@ fn walk(table: &[u32], many: usize, tape: &[u32], items: usize) -> Place
 }
 
 // The walk, where the table has room for its words.
-fn listed(table: &[u32], many: usize, tape: &[u32], items: usize) -> Place
+fn listed(table: &[u32], many: usize, tape: &[u32], items: usize) -> Option<u32>
     requires { 3 * items ≤ length tape.now }
     ensures { 4 * many ≤ length table.now → result ≡ place_told (earliest (faults_at (places_in table.now 0 many) tape.now items)) }
 {
     if table.len() / 4 < many {
-        return Place::Nowhere;
+        return None;
     }
     walk(table, many, tape, items)
 }
 
 // The earliest place of row 7, where the tape holds the actor of the text, which row 1 has let through.
-pub fn fault(text: &[u8], tape: &[u32], n: usize) -> Place
+pub fn fault(text: &[u8], tape: &[u32], n: usize) -> Option<u32>
     requires { n ≤ length tape.now }
     ensures { (ws : List Word) (a : Actor) → length text.now ≤ limits.actor → Tells text.now tape.now n ws a → result ≡ place_told (earliest (limit_faults ws a)) }
 {
     let mut table = [0u32; TABLE];
     match words::words(text, &mut table) {
-        words::Found::Words(many) => listed(&table, many as usize, tape, n / 3),
-        words::Found::Bad(_) => Place::Nowhere,
-        words::Found::NoRoom => Place::Nowhere,
+        Ok(many) => listed(&table, many as usize, tape, n / 3),
+        Err(_) => None,
     }
 }

@@ -15,7 +15,6 @@ ghost use Rattle.tape.specs.Row.{Tells};
 ghost use Rattle.row08_types.specs.Walk.{is_type, place, outer_of, outward_of, waiting_of, coming_of, seen_from, bare, counted_of, is_done, logs_over, passing, nodes_before, log_faulty, faulty};
 
 use tape::{Node, either, node_of};
-use words::Place;
 
 // The operations of the items of types.
 const LIMIT: u32 = language::Type::NUMBER;
@@ -247,11 +246,11 @@ fn at_fault(tape: &[u32], n: usize, i: usize) -> bool
 }
 
 // The earliest place of row 8, where the tape holds the actor of a text.
-pub fn fault(tape: &[u32], n: usize) -> Place
+pub fn fault(tape: &[u32], n: usize) -> Option<u32>
     requires { n ≤ length tape.now }
     ensures { (text : List ℕ) (ws : List Word) (a : Actor) → Tells text tape.now n ws a → result ≡ place_told (earliest (each type_faults (types (actor_items a)))) }
 {
-    let mut first = Place::Nowhere;
+    let mut first = None;
     let mut i = 0;
     while i < n / 3 {
         if at_fault(tape, n, i) {

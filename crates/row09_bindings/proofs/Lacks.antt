@@ -12,7 +12,7 @@ use Rattle.language.specs.Bindings.{Binding}
 use Rattle.language.specs.Widths.{bound_names}
 use Rattle.binding_names.specs.Names.{line_in}
 use Rattle.words.specs.Found.{place_told, earlier_of}
-use Rattle.words.specs.declared.Place.{Place}
+use Rattle.words.specs.Found.{Place}
 use Rattle.tape.proofs.Walks.{told_earlier}
 use Rattle.placed.proofs.Same.{each_as}
 use Rattle.row09_bindings.specs.Lines.{name_on, lines_on}

@@ -7,7 +7,7 @@ use Rattle.language.specs.Names.{missing}
 use Rattle.language.specs.Bindings.{Bindings}
 use Rattle.language.specs.Widths.{bound_names}
 use Rattle.words.specs.Found.{place_told}
-use Rattle.words.specs.declared.Place.{Place}
+use Rattle.words.specs.Found.{Place}
 use Rattle.tape.specs.Row.{Tells}
 use Rattle.tape.specs.Walk.{between}
 use Rattle.tape.specs.declared.Class.{Class}

@@ -15,7 +15,6 @@ ghost use Rattle.row09_bindings.specs.Told.{StrangeTold, FaultsTold};
 
 use bindings::Lines;
 use tape::{Class, DECLARED, ENVIRONMENT, MEMORY, VALUE, either, said, wide};
-use words::Place;
 
 // The name of a line.
 fn line_name<'a>(btext: &'a [u8], table: &[u32], i: usize) -> &'a [u8]
@@ -58,8 +57,8 @@ fn strange(
     table: &[u32],
     from: usize,
     to: usize,
-    rest: Place,
-) -> Place
+    rest: Option<u32>,
+) -> Option<u32>
     requires { (3 * many ≤ length tape.now) × (from ≤ to) × (3 * to ≤ length table.now) }
     ensures { StrangeTold text.now tape.now many class btext.now table.now from to rest result }
 {
@@ -82,7 +81,7 @@ pub fn strangers(
     btext: &[u8],
     table: &[u32],
     lines: Lines,
-) -> Place
+) -> Option<u32>
     requires n_in_bounds { n ≤ length tape.now }
     requires lined { Lined lines table.now }
     ensures { FaultsTold text.now tape.now n btext.now table.now lines strangers_of result }
@@ -97,7 +96,7 @@ pub fn strangers(
         table,
         lines.widths,
         lines.widths + lines.values,
-        Place::Nowhere,
+        None,
     );
     strange(
         text,
@@ -141,11 +140,11 @@ fn open_at(text: &[u8], tape: &[u32], btext: &[u8], table: &[u32], lines: Lines,
 }
 
 // The earliest place of an open item among so many.
-fn walk(text: &[u8], tape: &[u32], many: usize, btext: &[u8], table: &[u32], lines: Lines) -> Place
+fn walk(text: &[u8], tape: &[u32], many: usize, btext: &[u8], table: &[u32], lines: Lines) -> Option<u32>
     requires { (3 * many ≤ length tape.now) × Lined lines table.now }
     ensures { result ≡ place_told (earliest (opens_at text.now tape.now btext.now table.now lines many)) }
 {
-    let mut first = Place::Nowhere;
+    let mut first = None;
     let mut i = 0;
     while i < many {
         if open_at(text, tape, btext, table, lines, i) {
@@ -164,7 +163,7 @@ pub fn unsettled(
     btext: &[u8],
     table: &[u32],
     lines: Lines,
-) -> Place
+) -> Option<u32>
     requires n_in_bounds { n ≤ length tape.now }
     requires lined { Lined lines table.now }
     ensures { FaultsTold text.now tape.now n btext.now table.now lines unsettled_of result }

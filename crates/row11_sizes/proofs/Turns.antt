@@ -18,7 +18,7 @@ use Rattle.size_walk.specs.Bounds.{effect_at, step_at, up_to, Bounded}
 use Rattle.laws.specs.Tables.{Kept}
 use Rattle.laws.proofs.Tables.{stored}
 use Rattle.item_effects.proofs.Tables.{pick_within}
-use Rattle.words.specs.declared.Place.{Place}
+use Rattle.words.specs.Found.{Place}
 
 -- ---- by index
 

@@ -11,7 +11,6 @@ ghost use Rattle.size_walk.specs.Bounds.{step_at, Bounded};
 
 use item_effects::{effect_at, emitted, ended, hold, left, part, seen};
 use size_walk::{Far, onward};
-use words::Place;
 
 // A slot for each `val` of a rule.
 const VALS: usize = language::Plan::VALS as usize;
@@ -50,7 +49,7 @@ fn step(
 }
 
 // The earliest fault of the settled items; the code, and the length of each rule's.
-pub fn fault(items: &[u32], many: usize, code: &mut [u32], lengths: &mut [u32]) -> Place
+pub fn fault(items: &[u32], many: usize, code: &mut [u32], lengths: &mut [u32]) -> Option<u32>
     requires { (many ≤ most_settled) × (6 * many ≤ length items.now) × (4 * many ≤ length code.old) × (length lengths.old ≡ room) }
     ensures first { result ≡ (walked items.now many).first }
     ensures code { code.new ≡ laid (walked items.now many).code code.old }
@@ -62,7 +61,7 @@ pub fn fault(items: &[u32], many: usize, code: &mut [u32], lengths: &mut [u32]) 
     let mut far = Far {
         waits: 0,
         out: 0,
-        first: Place::Nowhere,
+        first: None,
         breadth: 0,
         start: 0,
         cases: 0,

@@ -7,8 +7,8 @@ use Prim.Native.Nat.{ℕ, min}
 use Rattle.language.specs.Text.{earliest}
 use Rattle.language.specs.Names.{when}
 use Rattle.placed.proofs.Earliest.{earliest_same}
-use Rattle.words.specs.declared.Place.{Place}
-use Rattle.words.specs.declared.Place.TheVariants.{Nowhere}
+use Rattle.words.specs.Found.{Place}
+use Rattle.std.specs.Prelude.{None}
 use Rattle.words.specs.Found.{earlier_of, place_told}
 use Rattle.settled.specs.Form.{six}
 use Rattle.placed.proofs.Same.{swap}
@@ -63,6 +63,6 @@ quiet o p a b c d q = goes_six o p a b c d q.0 q.1
 pub ends : {m m' m'' : Met} {l f : List ℕ} (o p a b c d : ℕ) → Goes m l f m' → (faulty m' o a ≡ false) × (next_of m' o a b ≡ m'') → Goes m (l ++ six o p a b c d) f m''
 ends {f = f} o p a b c d g q = goes_told (append-nil f) (goes_both g (quiet o p a b c d q))
 
-pub goes_whole : {m m' : Met} {a f : List ℕ} → Goes m a f m' → walk m a Nowhere ≡ told f
+pub goes_whole : {m m' : Met} {a f : List ℕ} → Goes m a f m' → walk m a None ≡ told f
 unfolding walk earliest place_told
-goes_whole {m} {a = a} d = ap (λ (l : List ℕ). walk m l Nowhere) (sym (append-nil a)) ∙ d.on [] []
+goes_whole {m} {a = a} d = ap (λ (l : List ℕ). walk m l None) (sym (append-nil a)) ∙ d.on [] []

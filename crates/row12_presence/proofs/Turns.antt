@@ -9,7 +9,7 @@ use lib.ListN.{length, get_or, take, drop, length-drop}
 use lib.Seq.{drop-cons, get_or-take, length-take-le}
 use borrow.Author.Tests.{ne_eqb, lt-ltb, le-ltb}
 use Rattle.plan.proofs.Lists.{one_shl}
-use Rattle.words.specs.declared.Place.{Place}
+use Rattle.words.specs.Found.{Place}
 use Rattle.settled.specs.Form.{PRESENT, ASSIGN, RULED, OR}
 use Rattle.row12_presence.specs.declared.Met.{Met}
 use Rattle.row12_presence.specs.Walk.{mask_bits, with_port, faulty, listing, next_of, soonest, walk}

@@ -10,12 +10,12 @@ use Rattle.language.specs.Presence.{presence_faults}
 use Rattle.language.specs.Sizes.{Setting}
 use Rattle.placed.proofs.Earliest.{earliest_same}
 use Rattle.words.specs.Found.{place_told}
-use Rattle.words.specs.declared.Place.TheVariants.{Nowhere}
+use Rattle.std.specs.Prelude.{None}
 use Rattle.settled.specs.Settled.{settled_of}
 use Rattle.row12_presence.specs.Walk.{mask_bits, walk, begin}
 use Rattle.row12_presence.proofs.Goes.{goes_whole}
 use Rattle.row12_presence.proofs.Actors.{actor_does}
 use Rattle.row12_presence.proofs.Faults.{actor_same}
 
-pub earliest_fault : (s : Setting) → length s.actor.signature ≤ mask_bits → name_faults s.actor ≡ [] → walk begin (settled_of s) Nowhere ≡ place_told (earliest (presence_faults s.actor))
+pub earliest_fault : (s : Setting) → length s.actor.signature ≤ mask_bits → name_faults s.actor ≡ [] → walk begin (settled_of s) None ≡ place_told (earliest (presence_faults s.actor))
 earliest_fault s few passed = goes_whole (actor_does s few passed) ∙ ap place_told (earliest_same (actor_same s.actor).to (actor_same s.actor).from)

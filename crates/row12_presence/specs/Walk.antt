@@ -2,7 +2,7 @@
 use Rattle.std.specs.Prelude.{Bool, true, false, not, ◌||◌, List, [], ◌∷◌, ℕ, ◌^◌, eqb, ltb}
 use Rattle.std.specs.Int.Bits.{bit_or}
 use Rattle.language.specs.Values.{bit_of}
-use Rattle.words.specs.declared.Place.{Place}
+use Rattle.words.specs.Found.{Place}
 use Rattle.words.specs.Found.{earlier_of}
 use Rattle.settled.specs.Form.{READ, ASSIGN, PRESENT, RULED, OR}
 use Rattle.row12_presence.specs.declared.Met.{Met}

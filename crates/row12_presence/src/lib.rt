@@ -9,7 +9,6 @@ ghost use Rattle.row12_presence.specs.Walk.{has, with_port, faulty, next_of, soo
 
 use plan::MASK_BITS;
 use settled::{ASSIGN, OR, PRESENT, READ, RULED};
-use words::Place;
 
 // Sets of ports, each a mask with bit k for port k: those that this rule lists with `.p.1`, the outputs that it has assigned,
 // those assigned so far in all groups, and those assigned in earlier groups.
@@ -94,7 +93,7 @@ fn met_after(op: u32, port: u32, listed: u32, met: Met) -> Met
 }
 
 // The earlier of two places, where the first counts.
-fn sooner(counts: bool, at: u32, first: Place) -> Place
+fn sooner(counts: bool, at: u32, first: Option<u32>) -> Option<u32>
     ensures { result ≡ soonest counts at first }
 {
     if counts {
@@ -105,7 +104,7 @@ fn sooner(counts: bool, at: u32, first: Place) -> Place
 }
 
 // The earliest place of a faulty item among so many.
-pub fn fault(items: &[u32], many: usize) -> Place
+pub fn fault(items: &[u32], many: usize) -> Option<u32>
     requires { 6 * many ≤ length items.now }
     ensures { result ≡ walk begin (take (6 * many) items.now) Nowhere }
 {
@@ -115,7 +114,7 @@ pub fn fault(items: &[u32], many: usize) -> Place
         everywhere: 0,
         earlier: 0,
     };
-    let mut first = Place::Nowhere;
+    let mut first = None;
     let mut i = 0;
     while i < many {
         let op = items[6 * i];

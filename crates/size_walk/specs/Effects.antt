@@ -2,8 +2,8 @@
 use Rattle.std.specs.Prelude.{Bool, true, false, not, ◌&&◌, ◌||◌, ℕ, ◌+◌, ◌*◌, ◌^◌, min, max, eqb, leb, ltb}
 use Rattle.language.specs.Limits.{limits}
 use Rattle.language.specs.Values.{plain_width, unary_width, binary_width, range_width}
-use Rattle.words.specs.declared.Place.{Place}
-use Rattle.words.specs.declared.Place.TheVariants.{At, Nowhere}
+use Rattle.words.specs.Found.{Place}
+use Rattle.std.specs.Prelude.{Some, None}
 use Rattle.words.specs.Found.{earlier_of}
 use Rattle.plan.specs.declared.Item.{Item}
 use Rattle.plan.specs.declared.Item.TheVariants.{Const, Port, Let, Cell, Range, Copies, Beside, Before, Between, Choice, Arm, Keep, Assign, Write, Bad}
@@ -33,23 +33,23 @@ ends_of k f e = record { takes = k; leaves = false; width = 0; start = 0; fault 
 
 -- "An expression with a fault inside has no width and no further fault"
 unfoldable pub faulty_of : ℕ → ℕ → Emits → Effect
-faulty_of k s e = gives_of k FAULTY s Nowhere e
+faulty_of k s e = gives_of k FAULTY s None e
 
 unfoldable pub tested_of : Bool → ℕ → ℕ → ℕ → ℕ → Emits → Effect
-tested_of true k w s p e = gives_of k w s Nowhere e
-tested_of false k w s p e = gives_of k FAULTY s (At p) e
+tested_of true k w s p e = gives_of k w s None e
+tested_of false k w s p e = gives_of k FAULTY s (Some p) e
 
 unfoldable pub through_of : Bool → ℕ → ℕ → Emits → Effect → Effect
 through_of true k s e x = x
 through_of false k s e x = faulty_of k s e
 
 unfoldable pub sooner_of : Place → Place → Place
-sooner_of Nowhere q = q
-sooner_of (At p) q = earlier_of p q
+sooner_of None q = q
+sooner_of (Some p) q = earlier_of p q
 
 unfoldable pub unless_at : Bool → ℕ → Place
-unless_at true p = Nowhere
-unless_at false p = At p
+unless_at true p = None
+unless_at false p = Some p
 
 -- the widths of an operator by its number
 unfoldable pub before_width : Item → ℕ
@@ -95,10 +95,10 @@ binary_wide o m n = between_width (binary_item o m n)
 -- ---- the items that take no expression
 
 unfoldable pub plain_effect : ℕ → ℕ → Effect
-plain_effect p v = gives_of 0 (plain_width v) p Nowhere (Adds (Const (plain_width v) v 0))
+plain_effect p v = gives_of 0 (plain_width v) p None (Adds (Const (plain_width v) v 0))
 
 unfoldable pub read_effect : ℕ → ℕ → ℕ → Effect
-read_effect p k w = gives_of 0 w p Nowhere (Adds (Port k))
+read_effect p k w = gives_of 0 w p None (Adds (Port k))
 
 module _ (v : Seen) where
   unfoldable pub big_effect : Effect
@@ -109,7 +109,7 @@ module _ (v : Seen) where
   sized_effect lo hi = tested_of (has v.breadth && ltb (lo + hi * 2 ^ 32) (2 ^ v.breadth)) 0 v.breadth v.start v.start (Adds (Const v.breadth lo hi))
 
   unfoldable pub used_effect : ℕ → ℕ → Effect
-  used_effect p k = gives_of 0 v.held p Nowhere (Adds (Let k))
+  used_effect p k = gives_of 0 v.held p None (Adds (Let k))
 
   -- ---- the items over expressions
 
@@ -117,23 +117,23 @@ module _ (v : Seen) where
   copies_effect p n = through_of (has v.x) 1 p (Adds (Copies n v.x)) (tested_of (leb (n * v.x) limits.expressionWidth) 1 (n * v.x) p p (Adds (Copies n v.x)))
 
   unfoldable pub cell_effect : ℕ → ℕ → ℕ → ℕ → ℕ → Effect
-  cell_effect p m f n w = through_of (has v.x) 1 p (Adds (Cell m f n)) (gives_of 1 w p Nowhere (Adds (Cell m f n)))
+  cell_effect p m f n w = through_of (has v.x) 1 p (Adds (Cell m f n)) (gives_of 1 w p None (Adds (Cell m f n)))
 
   unfoldable pub range_effect : ℕ → ℕ → ℕ → Effect
   range_effect p i j = through_of (has v.x) 1 v.s (Adds (Range i j)) (tested_of (ltb i v.x && ltb j v.x) 1 (range_width i j) v.s p (Adds (Range i j)))
 
   unfoldable pub begun_effect : ℕ → Effect
-  begun_effect p = gives_of 1 v.x p Nowhere Nothing
+  begun_effect p = gives_of 1 v.x p None Nothing
 
   unfoldable pub joined_effect : ℕ → Effect
   joined_effect p = through_of (not (eqb v.x FAULTY)) 1 p Nothing (tested_of (has v.x) 1 v.x p p Nothing)
 
   -- a sum over 64 is kept as 65
   unfoldable pub beside_effect : Effect
-  beside_effect = through_of (not (eqb v.x FAULTY || eqb v.y FAULTY)) 2 v.t (Adds (Beside v.x)) (gives_of 2 (min (v.y + v.x) 65) v.t Nowhere (Adds (Beside v.x)))
+  beside_effect = through_of (not (eqb v.x FAULTY || eqb v.y FAULTY)) 2 v.t (Adds (Beside v.x)) (gives_of 2 (min (v.y + v.x) 65) v.t None (Adds (Beside v.x)))
 
   unfoldable pub unary_effect : ℕ → ℕ → Effect
-  unary_effect p o = through_of (has v.x) 1 p (Adds (unary_item o v.x)) (gives_of 1 (unary_wide o v.x) p Nowhere (Adds (unary_item o v.x)))
+  unary_effect p o = through_of (has v.x) 1 p (Adds (unary_item o v.x)) (gives_of 1 (unary_wide o v.x) p None (Adds (unary_item o v.x)))
 
   unfoldable pub binary_effect : ℕ → Effect
   binary_effect o =
@@ -141,16 +141,16 @@ module _ (v : Seen) where
       (tested_of (has (binary_wide o v.y v.x)) 2 (binary_wide o v.y v.x) v.t v.t (Adds (binary_item o v.y v.x)))
 
   unfoldable pub choice_effect : ℕ → Effect
-  choice_effect p = through_of (has v.x && has v.y && has v.z) 3 p (Adds Choice) (gives_of 3 (max v.y v.x) p Nowhere (Adds Choice))
+  choice_effect p = through_of (has v.x && has v.y && has v.z) 3 p (Adds Choice) (gives_of 3 (max v.y v.x) p None (Adds Choice))
 
   unfoldable pub selected_effect : ℕ → Effect
-  selected_effect p = through_of (has v.x && has v.y) 2 p Nothing (gives_of 2 v.x p Nowhere Nothing)
+  selected_effect p = through_of (has v.x && has v.y) 2 p Nothing (gives_of 2 v.x p None Nothing)
 
   unfoldable pub arm_effect : ℕ → ℕ → Effect
-  arm_effect p n = through_of (has v.x && has v.y) 2 p (Adds (Arm n (arm_slot v.cases))) (gives_of 2 (max v.y v.x) p Nowhere (Adds (Arm n (arm_slot v.cases))))
+  arm_effect p n = through_of (has v.x && has v.y) 2 p (Adds (Arm n (arm_slot v.cases))) (gives_of 2 (max v.y v.x) p None (Adds (Arm n (arm_slot v.cases))))
 
   unfoldable pub select_effect : Effect
-  select_effect = ends_of 0 Nowhere (Adds (Keep (case_slot v.cases) v.x))
+  select_effect = ends_of 0 None (Adds (Keep (case_slot v.cases) v.x))
 
   -- ---- what ends a statement: "a wider one is refused"
 
@@ -164,7 +164,7 @@ module _ (v : Seen) where
   write_effect m f n w = ends_of 2 (fitted_at w) (Adds (Write m f n))
 
   unfoldable pub val_effect : ℕ → Effect
-  val_effect k = ends_of 1 Nowhere (Adds (Keep k v.x))
+  val_effect k = ends_of 1 None (Adds (Keep k v.x))
 
   unfoldable pub kept_of : Bool → ℕ → ℕ
   kept_of true w = w
@@ -241,7 +241,7 @@ effect_of op p a b c d v =
                                                                                                                             elim (eqb op TYPED) [
                                                                                                                               | true ↦ typed_effect v p a d
                                                                                                                               | false ↦
-                                                                                                                                  elim (eqb op VAL) [ true ↦ val_effect v a | false ↦ ends_of 0 Nowhere Nothing ]
+                                                                                                                                  elim (eqb op VAL) [ true ↦ val_effect v a | false ↦ ends_of 0 None Nothing ]
                                                                                                                             ]
                                                                                                                       ]
                                                                                                                 ]

@@ -1,7 +1,7 @@
 -- The walk over the settled items, on lists: what waits, the latest first, and what was written. Assumes nothing: these are definitions.
 use Rattle.std.specs.Prelude.{◌≡◌, Bool, true, false, ◌&&◌, ◌||◌, List, [], ◌∷◌, ◌++◌, ℕ, ◌+◌, ◌-◌, ◌*◌, eqb, ltb, length, get_or, set, take, drop, replicate}
-use Rattle.words.specs.declared.Place.{Place}
-use Rattle.words.specs.declared.Place.TheVariants.{Nowhere}
+use Rattle.words.specs.Found.{Place}
+use Rattle.std.specs.Prelude.{None}
 use Rattle.plan.specs.Waits.{top}
 use Rattle.plan.specs.declared.Item.{Item}
 use Rattle.plan.specs.declared.Item.TheVariants.{Const, Port, Let, Cell, Range, Copies, Beside, Before, Between, Choice, Arm, Keep, Assign, Write, Bad}
@@ -137,7 +137,7 @@ begin =
       slots = replicate 16 0;
       code = [];
       lengths = [];
-      first = Nowhere;
+      first = None;
       breadth = 0;
       start = 0;
       cases = 0;

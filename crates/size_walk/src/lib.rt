@@ -11,7 +11,6 @@ pub use effects::{ends, faulty, gives, tested};
 use plan::Item;
 pub use statements::{assign, typed, val, write};
 pub use turns::onward;
-use words::Place;
 
 // What has no width: a fault is inside it.
 pub const FAULTY: u32 = 99;
@@ -31,7 +30,7 @@ pub struct Effect {
     pub leaves: bool,
     pub width: u32,
     pub start: u32,
-    pub fault: Place,
+    pub fault: Option<u32>,
     pub emits: Emits,
 }
 
@@ -57,7 +56,7 @@ pub struct Seen {
 pub struct Far {
     pub waits: usize,
     pub out: usize,
-    pub first: Place,
+    pub first: Option<u32>,
     pub breadth: u32,
     pub start: u32,
     pub cases: u32,

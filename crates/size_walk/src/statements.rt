@@ -6,12 +6,11 @@ ghost use Rattle.size_walk.specs.Effects.{kept_of, fitted_at, assign_effect, wri
 use crate::effects::{ends, sooner, unless};
 use crate::{Effect, Emits, FAULTY, Seen};
 use plan::Item;
-use words::Place;
 
 const WIDE: u32 = language::Expression::WIDTH;
 
 // A value is no wider than its target; what has a fault inside has no further one.
-fn fitted(w: u32, seen: Seen) -> Place
+fn fitted(w: u32, seen: Seen) -> Option<u32>
     ensures { result ≡ fitted_at seen w }
 {
     unless((WIDE < seen.x) | (seen.x <= w), seen.s)
@@ -32,7 +31,7 @@ pub fn write(m: u32, first: u32, size: u32, w: u32, seen: Seen) -> Effect
 pub fn val(slot: u32, seen: Seen) -> Effect
     ensures { result ≡ val_effect seen slot }
 {
-    ends(1, Place::Nowhere, Emits::Adds(Item::Keep(slot, seen.x)))
+    ends(1, None, Emits::Adds(Item::Keep(slot, seen.x)))
 }
 
 // The width of a `let` with a type: its type's, where that holds its value.

@@ -6,7 +6,6 @@ ghost use Rattle.size_walk.specs.Steps.{around_of, pick, onward_of};
 use crate::Far;
 use crate::effects::sooner;
 use settled::{BITS, RULED, SELECT, SELECTED};
-use words::Place;
 
 // One case less, none where there is none.
 fn fewer(cases: u32) -> u32
@@ -45,7 +44,7 @@ pub fn onward(
     op: u32,
     p: u32,
     a: u32,
-    fault: Place,
+    fault: Option<u32>,
     waits: usize,
     out: usize,
     rules: usize,

@@ -2,10 +2,10 @@
 use mathlib.Core.Path.{◌≡◌, refl, sym, ap, ◌∙◌}
 use mathlib.Core.Bool.{Bool, true, false}
 use mathlib.Core.List.{List, [], ◌∷◌}
-use Prim.Native.Nat.{ℕ, zero, suc, ◌+◌, ◌-◌, ◌*◌, ◌/◌, ◌≤◌, ◌<◌}
+use Prim.Native.Nat.{ℕ, zero, suc, ◌+◌, ◌*◌, ◌≤◌, ◌<◌}
 use native.Mathlib.Omega.{arith}
 use native.Mathlib.Numerals.{add-one}
-use native.Mathlib.Nat.{le-div_iff_mul-le, div-lt_iff_lt-mul, mul-suc}
+use native.Mathlib.Nat.{mul-suc}
 use lib.Dec.{ltb, eqb}
 use lib.ListN.{length, drop, get_or, drop_of_length-le, get_or-eq_default}
 use lib.Seq.{drop-cons}
@@ -13,8 +13,7 @@ use borrow.Author.Tests.{lt-ltb, le-ltb, ltb-true, ltb-false, ne_eqb}
 use Rattle.language.specs.Words.{span, plain_byte, digit_of, digit_in, base_of, one_of, some_of, bytes, value_in_base}
 use Rattle.spelling.proofs.Laws.{both_left, both_right, never}
 use Rattle.sized_constants.specs.Constant.{amount_of, constant_at}
-use Rattle.sized_constants.specs.declared.Amount.{Amount}
-use Rattle.sized_constants.specs.declared.Amount.TheVariants.{Exact, TooBig}
+use Rattle.std.specs.Prelude.{Option, Some, None, SomeIff}
 
 -- ---- a base
 
@@ -64,23 +63,28 @@ below_of base b e = ltb-true (digit_of b) base (both_right (plain_byte b) (ltb (
 
 -- ---- an amount
 
-pub amount_exact : (n : ℕ) → n < 18446744073709551616 → amount_of n ≡ Exact n
+pub amount_exact : (n : ℕ) → n < 18446744073709551616 → amount_of n ≡ Some n
 unfolding amount_of
 amount_exact n h = simp (amount_of, lt-ltb n 18446744073709551616 h)
 
-pub amount_big : (n : ℕ) → 18446744073709551616 ≤ n → amount_of n ≡ TooBig
+pub amount_big : (n : ℕ) → 18446744073709551616 ≤ n → amount_of n ≡ None
 unfolding amount_of
 amount_big n h = simp (amount_of, le-ltb n 18446744073709551616 h)
 
-exactly : Amount → ℕ
-exactly (Exact x) = x
-exactly TooBig = 0
+-- what a checked sum gives
+pub amount_told : {r : Option ℕ} (n : ℕ) → SomeIff r (n < 18446744073709551616) n → r ≡ amount_of n
+amount_told {r = Some x} n h = rw h.1 (sym (amount_exact n h.0))
+amount_told {r = None} n h = sym (amount_big n (omega arith))
 
-is_big : Amount → Bool
-is_big (Exact x) = false
-is_big TooBig = true
+exactly : Option ℕ → ℕ
+exactly (Some x) = x
+exactly None = 0
 
-pub exact_is : (x n : ℕ) → Exact x ≡ amount_of n → n ≡ x
+is_big : Option ℕ → Bool
+is_big (Some x) = false
+is_big None = true
+
+pub exact_is : (x n : ℕ) → Some x ≡ amount_of n → n ≡ x
 unfolding exactly is_big
 exact_is x n e = go (ltb n 18446744073709551616) refl
   where
@@ -88,7 +92,7 @@ exact_is x n e = go (ltb n 18446744073709551616) refl
     go true q = sym (ap exactly (e ∙ amount_exact n (ltb-true _ _ q)))
     go false q = never (sym (ap is_big (e ∙ amount_big n (ltb-false _ _ q))))
 
-pub big_is : (n : ℕ) → TooBig ≡ amount_of n → 18446744073709551616 ≤ n
+pub big_is : (n : ℕ) → None ≡ amount_of n → 18446744073709551616 ≤ n
 unfolding is_big
 big_is n e = go (ltb n 18446744073709551616) refl
   where
@@ -106,18 +110,8 @@ module _ (base d : ℕ) (h : d < base) where
       go zero z = absurd (omega arith)
       go (suc k) z = rw (mul-suc n k) (omega arith)
 
-  pub raised_big : (n : ℕ) → TooBig ≡ amount_of n → TooBig ≡ amount_of (n * base + d)
+  pub raised_big : (n : ℕ) → None ≡ amount_of n → None ≡ amount_of (n * base + d)
   raised_big n e = let p = big_is n e in let q = grows n in sym (amount_big _ (omega (arith, p, q)))
-
-  module _ (k : base ≤ 16) (x : ℕ) where
-    positive : 0 < base
-    positive = omega arith
-
-    pub raised_over : (18446744073709551615 - d) / base < x → TooBig ≡ amount_of (x * base + d)
-    raised_over l = let p = (div-lt_iff_lt-mul positive).0 l in sym (amount_big _ (omega (arith, p)))
-
-    pub raised_fits : x ≤ (18446744073709551615 - d) / base → x * base + d < 18446744073709551616
-    raised_fits l = let p = (le-div_iff_mul-le positive).0 l in omega (arith, p)
 
 -- ---- the digits from a place on
 
@@ -135,7 +129,7 @@ module _ (base : ℕ) (text : List ℕ) (i n : ℕ) where
   digits_over h = rw (drop_of_length-le text h)
 
 -- where no letter stands after the `'`
-pub constant_none : (text : List ℕ) (at : ℕ) → length text ≤ at + 1 → amount_of (constant_at text at) ≡ Exact 0
+pub constant_none : (text : List ℕ) (at : ℕ) → length text ≤ at + 1 → amount_of (constant_at text at) ≡ Some 0
 unfolding constant_at base_of one_of some_of bytes span value_in_base
 constant_none text at h = rw (get_or-eq_default text 0 h, drop_of_length-le text (past h)) (amount_exact 0 (omega arith))
   where

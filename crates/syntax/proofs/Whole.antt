@@ -18,10 +18,11 @@ use Rattle.language.specs.Parser.{constraint_p, actor_p, parse}
 use Rattle.language.specs.Reading.{word_place}
 use Rattle.words.specs.Table.{table_of, word_of, word_at}
 use Rattle.words.specs.Found.{roomy, found_of, table_after, words_until, left_in, left_kind, place_told}
-use Rattle.words.specs.declared.Found.{Found}
-use Rattle.words.specs.declared.Found.TheVariants.{Words, Bad as BadWord, NoRoom}
-use Rattle.words.specs.declared.Place.{Place}
-use Rattle.words.specs.declared.Place.TheVariants.{At as AtPlace, Nowhere}
+use Rattle.words.specs.Found.{Found}
+use Rattle.words.specs.declared.Fault.TheVariants.{Bad as BadWord, NoRoom}
+use Rattle.std.specs.Prelude.{Ok, Err}
+use Rattle.words.specs.Found.{Place}
+use Rattle.std.specs.Prelude.{Some as AtPlace, None as Nowhere}
 use Rattle.words.proofs.Back.{word_at_law, until_all, left_is}
 use Rattle.words.proofs.Whole.{clash, length_table, room}
 use Rattle.words.proofs.Runs.{all_runs, few_words}
@@ -152,11 +153,11 @@ module _ (text t : List ℕ) (h : length text ≤ 8192) (i : length t ≡ 32769)
   roomy_here : roomy text t ≡ true
   roomy_here = room text t h (omega arith)
 
-  found : found_of text t ≡ elim (words_of text) as (λ (x : Lexed). Found) [ words ws ↦ Words (length ws) | bad_at p ↦ BadWord p ]
+  found : found_of text t ≡ elim (words_of text) as (λ (x : Lexed). Found) [ words ws ↦ Ok (length ws) | bad_at p ↦ Err (BadWord p) ]
   unfolding found_of
   found = simp (found_of, roomy_here)
 
-  pub found_words : {n : ℕ} {t' : List ℕ} → t' ≡ table_after text t → Words n ≡ found_of text t → Listed text t' n
+  pub found_words : {n : ℕ} {t' : List ℕ} → t' ≡ table_after text t → Ok n ≡ found_of text t → Listed text t' n
   unfolding table_after
   found_words {n} {t'} d e = subst (λ (l : List ℕ). Listed text l n) (sym d) (go (words_of text) refl (e ∙ found))
     where
@@ -166,29 +167,29 @@ module _ (text t : List ℕ) (h : length text ≤ 8192) (i : length t ≡ 32769)
           table : table_after text t ≡ sets t 0 (table_of (words_until text))
           table = simp (table_after, roomy_here)
 
-      go : (x : Lexed) → words_of text ≡ x → Words n ≡ elim x as (λ (x : Lexed). Found) [ words ws ↦ Words (length ws) | bad_at p ↦ BadWord p ] → Listed text (table_after text t) n
+      go : (x : Lexed) → words_of text ≡ x → Ok n ≡ elim x as (λ (x : Lexed). Found) [ words ws ↦ Ok (length ws) | bad_at p ↦ Err (BadWord p) ] → Listed text (table_after text t) n
       go (words ws) q f = record { ws = ws; lexed = q; many = cc; before = t; long = i; holds = after ws q; short = h }
       go (bad_at p) q f = clash (cc)
 
-  bad_word : {p : ℕ} → BadWord p ≡ found_of text t → words_of text ≡ bad_at p
+  bad_word : {p : ℕ} → Err (BadWord p) ≡ found_of text t → words_of text ≡ bad_at p
   bad_word {p} e = go (words_of text) refl (e ∙ found)
     where
-      go : (x : Lexed) → words_of text ≡ x → BadWord p ≡ elim x as (λ (x : Lexed). Found) [ words ws ↦ Words (length ws) | bad_at p ↦ BadWord p ] → words_of text ≡ bad_at p
+      go : (x : Lexed) → words_of text ≡ x → Err (BadWord p) ≡ elim x as (λ (x : Lexed). Found) [ words ws ↦ Ok (length ws) | bad_at p ↦ Err (BadWord p) ] → words_of text ≡ bad_at p
       go (words ws) q f = clash (cc)
       go (bad_at r) q f = let z : r ≡ p = cc in q ∙ ap bad_at z
 
-  pub found_some : NoRoom ≡ found_of text t → ⊥
+  pub found_some : Err NoRoom ≡ found_of text t → ⊥
   found_some e = go (words_of text) (e ∙ found)
     where
-      go : (x : Lexed) → NoRoom ≡ elim x as (λ (x : Lexed). Found) [ words ws ↦ Words (length ws) | bad_at p ↦ BadWord p ] → ⊥
+      go : (x : Lexed) → Err NoRoom ≡ elim x as (λ (x : Lexed). Found) [ words ws ↦ Ok (length ws) | bad_at p ↦ Err (BadWord p) ] → ⊥
       go (words ws) f = clash (cc)
       go (bad_at r) f = clash (cc)
 
-  pub bad_said : {p : ℕ} → BadWord p ≡ found_of text t → Refused 3 p ≡ words_said text
+  pub bad_said : {p : ℕ} → Err (BadWord p) ≡ found_of text t → Refused 3 p ≡ words_said text
   unfolding words_said
   bad_said e = sym (simp (words_said, bad_word e))
 
-  pub bad_after : {p : ℕ} (s : List ℕ) → BadWord p ≡ found_of text t → s ≡ words_after text s
+  pub bad_after : {p : ℕ} (s : List ℕ) → Err (BadWord p) ≡ found_of text t → s ≡ words_after text s
   unfolding words_after
   bad_after s e = sym (simp (words_after, bad_word e))
 

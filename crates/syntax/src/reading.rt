@@ -101,8 +101,8 @@ fn listed(text: &[u8], words: &mut Table, n: u32, tape: &mut Tape) -> Said
     ensures room { Roomy result }
 {
     match words::left_out(words, wide(n)) {
-        words::Place::At(p) => Said::Refused(4, p),
-        words::Place::Nowhere => {
+        Some(p) => Said::Refused(4, p),
+        None => {
             words[COUNT] = n;
             parsed(text, words, tape)
         }
@@ -120,9 +120,9 @@ pub fn read(text: &[u8], tape: &mut Tape) -> Said
     }
     let mut table = [0u32; COUNT + 1];
     match words::words(text, &mut table) {
-        words::Found::Words(n) => listed(text, &mut table, n, tape),
-        words::Found::Bad(p) => Said::Refused(3, p),
+        Ok(n) => listed(text, &mut table, n, tape),
+        Err(words::Fault::Bad(p)) => Said::Refused(3, p),
         // a text within its limit has room
-        words::Found::NoRoom => Said::Refused(3, 0),
+        Err(words::Fault::NoRoom) => Said::Refused(3, 0),
     }
 }

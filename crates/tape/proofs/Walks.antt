@@ -10,8 +10,8 @@ use native.Mathlib.Omega.{arith}
 use lib.Dec.{eqb}
 use Rattle.language.specs.Text.{same, among, earliest}
 use Rattle.words.specs.Found.{place_told, earlier_of}
-use Rattle.words.specs.declared.Place.{Place}
-use Rattle.words.specs.declared.Place.TheVariants.{Nowhere}
+use Rattle.words.specs.Found.{Place}
+use Rattle.std.specs.Prelude.{None}
 use Rattle.placed.proofs.Members.{member_append, member_left, member_right}
 use Rattle.placed.proofs.Earliest.{earliest_same}
 use Rattle.placed.specs.Placed.{name_from}
@@ -68,7 +68,7 @@ module _ (f : ℕ → Bool) (t : List ℕ) (i : ℕ) {first : Place} (h : first 
   unfolding marked put
   fault_same e = rw (add-one i) (sym (ap (λ (b : Bool). place_told (earliest (put b (place_at t i) (marked f t i)))) e ∙ sym h))
 
-pub no_fault : (f : ℕ → Bool) (t : List ℕ) → Nowhere ≡ place_told (earliest (marked f t 0))
+pub no_fault : (f : ℕ → Bool) (t : List ℕ) → None ≡ place_told (earliest (marked f t 0))
 unfolding marked earliest place_told
 no_fault f t = refl
 

@@ -22,8 +22,8 @@ use Rattle.language.specs.Reading.{refused, accepted, through, late}
 use Rattle.language.specs.declared.Text.TheVariants.{Actor as InActor}
 use Rattle.language.proofs.Main.{grammar_correct}
 use Rattle.words.specs.Found.{place_told}
-use Rattle.words.specs.declared.Place.{Place}
-use Rattle.words.specs.declared.Place.TheVariants.{At, Nowhere}
+use Rattle.words.specs.Found.{Place}
+use Rattle.std.specs.Prelude.{Some, None}
 use Rattle.plan_of.specs.PlanOf.{plan_of, rule_code}
 use Rattle.plan_of.specs.Accepted.{Accepted}
 use Rattle.plan_of.proofs.Grammar.{actor_grammatical}
@@ -105,9 +105,9 @@ padded_plan items code lengths k =
 -- ---- rows 11 and 12 by their places
 
 abbrev late_by : Setting → Place → Place → Reading.Answer
-late_by s (At p) q = refused 11 InActor p
-late_by s Nowhere (At p) = refused 12 InActor p
-late_by s Nowhere Nowhere = accepted s
+late_by s (Some p) q = refused 11 InActor p
+late_by s None (Some p) = refused 12 InActor p
+late_by s None None = accepted s
 
 late_told : (s : Setting) → late_of s ≡ late_by s (place_told (earliest (size_faults s))) (place_told (earliest (presence_faults s.actor)))
 unfolding late place_told
@@ -140,21 +140,21 @@ module _ {items : List ℕ} {many : ℕ} {ws : List Word} {s : Setting} (h : Set
   few_ports : length s.actor.signature ≤ 32
   few_ports = let e = few 16 s.actor.signature (limit_facts ws s.actor h.passed.limited).0 in omega arith
 
-  presence_told : {r : Place} → r ≡ Presence.walk Presence.begin (take (6 * many) items) Nowhere → r ≡ place_told (earliest (presence_faults s.actor))
-  presence_told e = e ∙ ap (λ (l : List ℕ). Presence.walk Presence.begin l Nowhere) h.holds ∙ earliest_fault s few_ports h.passed.names
+  presence_told : {r : Place} → r ≡ Presence.walk Presence.begin (take (6 * many) items) None → r ≡ place_told (earliest (presence_faults s.actor))
+  presence_told e = e ∙ ap (λ (l : List ℕ). Presence.walk Presence.begin l None) h.holds ∙ earliest_fault s few_ports h.passed.names
 
   module _ {x : Place} (e : x ≡ (walked_over items many).first) where
-    pub sizes_refused : {p : ℕ} (before : List ℕ) → x ≡ At p → Told (late_of s) (Refused 11 InActor p) before before
+    pub sizes_refused : {p : ℕ} (before : List ℕ) → x ≡ Some p → Told (late_of s) (Refused 11 InActor p) before before
     sizes_refused before f = told_refused (late_of s) before (late_told s ∙ ap (λ (q : Place). late_by s q (place_told (earliest (presence_faults s.actor)))) (sym (sizes_told e) ∙ f))
 
-    module _ {y : Place} (g : y ≡ Presence.walk Presence.begin (take (6 * many) items) Nowhere) (f : x ≡ Nowhere) where
-      told_late : late_of s ≡ late_by s Nowhere y
+    module _ {y : Place} (g : y ≡ Presence.walk Presence.begin (take (6 * many) items) None) (f : x ≡ None) where
+      told_late : late_of s ≡ late_by s None y
       told_late = late_told s ∙ ap₂ (late_by s) (sym (sizes_told e) ∙ f) (sym (presence_told g))
 
-      pub presence_refused : {p : ℕ} (before : List ℕ) → y ≡ At p → Told (late_of s) (Refused 12 InActor p) before before
-      presence_refused before k = told_refused (late_of s) before (told_late ∙ ap (late_by s Nowhere) k)
+      pub presence_refused : {p : ℕ} (before : List ℕ) → y ≡ Some p → Told (late_of s) (Refused 12 InActor p) before before
+      presence_refused before k = told_refused (late_of s) before (told_late ∙ ap (late_by s None) k)
 
-      module _ (k : y ≡ Nowhere) where
+      module _ (k : y ≡ None) where
         is_accepted : Accepted ws s
         is_accepted = record {
           names = h.passed.names;
@@ -168,7 +168,7 @@ module _ {items : List ℕ} {many : ℕ} {ws : List Word} {s : Setting} (h : Set
         }
 
         told_accepted : late_of s ≡ accepted s
-        told_accepted = told_late ∙ ap (late_by s Nowhere) k
+        told_accepted = told_late ∙ ap (late_by s None) k
 
         code_is : (walked_over items many).code ≡ each (rule_code s) (rules_of s.actor)
         code_is = ap (λ (w : State). w.code) same ∙ (sized ws s measured).code is_accepted.sized

@@ -12,7 +12,6 @@ ghost use Rattle.tipi.specs.Told.{Told, Heard, Settled, late_of, PlannedTold, Si
 use bindings::Lines;
 use language::Text;
 use plan_answer::{Answer, made};
-use words::Place;
 
 // A settled item, six numbers, for each item of the tape; for each of these at most one item of code, four numbers.
 const NUMBERS: usize = 6 * tape::ITEMS;
@@ -33,10 +32,10 @@ fn finished(items: &[u32], many: usize, plan: &mut [u32]) -> Answer
     let mut code = [0u32; CODE];
     let mut lengths = [0u32; RULES];
     match row11_sizes::fault(items, many, &mut code, &mut lengths) {
-        Place::At(p) => Answer::Refused(11, Text::Actor, p),
-        Place::Nowhere => match row12_presence::fault(items, many) {
-            Place::At(p) => Answer::Refused(12, Text::Actor, p),
-            Place::Nowhere => made(items, many, &code, &lengths, plan),
+        Some(p) => Answer::Refused(11, Text::Actor, p),
+        None => match row12_presence::fault(items, many) {
+            Some(p) => Answer::Refused(12, Text::Actor, p),
+            None => made(items, many, &code, &lengths, plan),
         },
     }
 }

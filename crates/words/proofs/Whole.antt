@@ -3,7 +3,7 @@ use mathlib.Core.Path.{◌≡◌, refl, sym, ap, ◌∙◌}
 use mathlib.Core.Bool.{true, false}
 use mathlib.Core.List.{List, [], ◌∷◌, ◌++◌, append_assoc, append-nil}
 use mathlib.Core.Option.{Option, none, some}
-use Prim.Native.Nat.{ℕ, suc, ◌+◌, ◌-◌, ◌*◌, ◌≤◌, ◌<◌, min}
+use Prim.Native.Nat.{ℕ, suc, ◌+◌, ◌-◌, ◌*◌, ◌≤◌, ◌<◌}
 use native.Mathlib.Omega.{arith}
 use native.Mathlib.Nat.{add-zero, add-suc, suc-add}
 use borrow.Author.Tests.{le-leb, lt-leb}
@@ -17,9 +17,10 @@ use Rattle.signs.specs.Tells.{Tells, is_word, is_wrong, is_over, is_apart}
 use Rattle.words.specs.Found.{until_from, words_until, roomy, found_of, table_after, left_in, left_kind, place_told, earlier_of}
 use Rattle.signs.specs.declared.Item.{Item}
 use Rattle.signs.specs.declared.Item.TheVariants.{Word as IsWord, Wrong, Apart, Over}
-use Rattle.words.specs.declared.Found.TheVariants.{Words, Bad, NoRoom}
-use Rattle.words.specs.declared.Place.{Place}
-use Rattle.words.specs.declared.Place.TheVariants.{At, Nowhere}
+use Rattle.words.specs.declared.Fault.TheVariants.{Bad, NoRoom}
+use Rattle.std.specs.Prelude.{Ok, Err}
+use Rattle.words.specs.Found.{Place}
+use Rattle.std.specs.Prelude.{None}
 
 -- ---- what an answer tells
 
@@ -205,16 +206,16 @@ module _ {text t₀ t : List ℕ} {at i : ℕ} (r : Reading text t₀ t at i) wh
     all : words_of text ≡ words (onto_w r.done [])
     all = r.goes ∙ ap (pushes r.done) (ap (λ (f : ℕ). words_from f at (drop at text)) spent ∙ from_over _ _ _ e) ∙ pushes_words r.done []
 
-    pub found_all : roomy text t₀ ≡ true → found_of text t₀ ≡ Words i
+    pub found_all : roomy text t₀ ≡ true → found_of text t₀ ≡ Ok i
     unfolding found_of
-    found_all h = simp (found_of, h, all) (ap Words (length_onto r.done [] ∙ add-zero _ ∙ r.many))
+    found_all h = simp (found_of, h, all) (ap Ok (length_onto r.done [] ∙ add-zero _ ∙ r.many))
 
     pub table_all : roomy text t₀ ≡ true → table_after text t₀ ≡ t
     unfolding table_after
     table_all h = simp (table_after, h) (ap (λ (l : List Word). sets t₀ 0 (table_of l)) (r.until ∙ ap (onto_w r.done) (ap (λ (f : ℕ). until_from f at (drop at text)) spent ∙ until_over _ _ _ e)) ∙ sym r.holds)
 
   module _ (e : next (drop at text) ≡ wrong) where
-    pub found_bad : roomy text t₀ ≡ true → found_of text t₀ ≡ Bad at
+    pub found_bad : roomy text t₀ ≡ true → found_of text t₀ ≡ Err (Bad at)
     unfolding found_of
     found_bad h = let q : words_of text ≡ bad_at at = r.goes ∙ ap (pushes r.done) (ap (λ (f : ℕ). words_from f at (drop at text)) spent ∙ from_wrong _ _ _ e) ∙ pushes_bad r.done at in simp (found_of, h, q)
 
@@ -235,7 +236,7 @@ module _ (text t : List ℕ) where
   unfolding roomy
   room h k = simp (roomy, le-leb _ _ h, le-leb _ _ k)
 
-  pub found_none : roomy text t ≡ false → found_of text t ≡ NoRoom
+  pub found_none : roomy text t ≡ false → found_of text t ≡ Err NoRoom
   unfolding found_of
   found_none e = simp (found_of, e)
 
@@ -244,19 +245,6 @@ module _ (text t : List ℕ) where
   table_none e = simp (table_after, e)
 
 -- ---- row 4
-
-module _ (a : ℕ) {o : Place} where
-  pub earlier_none : o ≡ Nowhere → At a ≡ earlier_of a o
-  unfolding earlier_of
-  earlier_none e = rw e
-
-  pub earlier_this : {p : ℕ} → o ≡ At p → a ≤ p → At a ≡ earlier_of a o
-  unfolding earlier_of
-  earlier_this {p} e h = let m : min a p ≡ a = omega arith in rw e (ap At (sym m))
-
-  pub earlier_that : {p : ℕ} → o ≡ At p → p < a → At p ≡ earlier_of a o
-  unfolding earlier_of
-  earlier_that {p} e h = let m : min a p ≡ p = omega arith in rw e (ap At (sym m))
 
 told_earlier : (p : ℕ) (ps : List ℕ) → place_told (earliest (p ∷ ps)) ≡ earlier_of p (place_told (earliest ps))
 unfolding earliest place_told earlier_of
@@ -275,7 +263,7 @@ module _ (t : List ℕ) (j m : ℕ) where
   unfolding left_in
   left_next e = let z : left_in t j (suc m) ≡ left_in t (suc j) m = simp (left_in, e) in rw z
 
-pub left_none : (t : List ℕ) (j m : ℕ) → m ≡ 0 → Nowhere ≡ place_told (earliest (left_in t j m))
+pub left_none : (t : List ℕ) (j m : ℕ) → m ≡ 0 → None ≡ place_told (earliest (left_in t j m))
 unfolding left_in earliest place_told
 left_none t j m e = rw e
 

@@ -5,10 +5,16 @@ use Rattle.std.proofs.lemmas.List.Edits.{sets}
 use Rattle.language.specs.Limits.{limits}
 use Rattle.language.specs.Words.{Word, over, apart, word, wrong, next, words_of, words, bad_at}
 use Rattle.words.specs.Table.{table_of}
-use Rattle.words.specs.declared.Found.{Found}
-use Rattle.words.specs.declared.Found.TheVariants.{Words, Bad, NoRoom}
-use Rattle.words.specs.declared.Place.{Place}
-use Rattle.words.specs.declared.Place.TheVariants.{At, Nowhere}
+use Rattle.words.specs.declared.Fault.{Fault}
+use Rattle.words.specs.declared.Fault.TheVariants.{Bad, NoRoom}
+use Rattle.std.specs.Prelude.{Option as Optional, Some, None, Result, Ok, Err}
+
+-- what reading a whole text comes to: how many words, or the fault; and a place, where there is one
+abbrev pub Found : Type 0
+Found = Result ℕ Fault
+
+abbrev pub Place : Type 0
+Place = Optional ℕ
 
 -- the words before the first bad one
 unfoldable pub until_from : ℕ → ℕ → List ℕ → List Word
@@ -29,7 +35,7 @@ unfoldable pub roomy : List ℕ → List ℕ → Bool
 roomy text t = leb (length text) limits.actor && leb (4 * length text) (length t)
 
 unfoldable pub found_of : List ℕ → List ℕ → Found
-found_of text t = elim (roomy text t) [ false ↦ NoRoom | true ↦ elim (words_of text) [ words ws ↦ Words (length ws) | bad_at p ↦ Bad p ] ]
+found_of text t = elim (roomy text t) [ false ↦ Err NoRoom | true ↦ elim (words_of text) [ words ws ↦ Ok (length ws) | bad_at p ↦ Err (Bad p) ] ]
 
 unfoldable pub table_after : List ℕ → List ℕ → List ℕ
 table_after text t = elim (roomy text t) [ false ↦ t | true ↦ sets t 0 (table_of (words_until text)) ]
@@ -44,9 +50,9 @@ left_in t i zero = []
 left_in t i (suc m) = elim (left_kind (get_or t (4 * i) 0)) [ true ↦ get_or t (4 * i + 1) 0 ∷ left_in t (suc i) m | false ↦ left_in t (suc i) m ]
 
 unfoldable pub place_told : Option ℕ → Place
-place_told none = Nowhere
-place_told (some p) = At p
+place_told none = None
+place_told (some p) = Some p
 
 unfoldable pub earlier_of : ℕ → Place → Place
-earlier_of p Nowhere = At p
-earlier_of p (At q) = At (min p q)
+earlier_of p None = Some p
+earlier_of p (Some q) = Some (min p q)

@@ -11,22 +11,13 @@ ghost use Rattle.words.specs.Found.{found_of, table_after, left_in, left_kind, e
 
 use signs::{Item, kinds};
 
-// What reading the whole text gives.
+// Why no words are read.
 #[derive(Clone, Copy)]
-pub enum Found {
-    // So many words.
-    Words(u32),
+pub enum Fault {
     // The place of the first bad word.
     Bad(u32),
     // A text over its limit, or a table with less than four numbers for each byte: nothing is read.
     NoRoom,
-}
-
-// A place, where there is one.
-#[derive(Clone, Copy)]
-pub enum Place {
-    At(u32),
-    Nowhere,
 }
 
 const BYTES: usize = language::Actor::BYTES as usize;
@@ -43,23 +34,24 @@ fn put(table: &mut [u32], i: usize, kind: u32, at: usize, n: usize, v: u32)
     table[p + 3] = v;
 }
 
-// Reads all words. Where a word is bad the table holds the words before it.
-pub fn words(text: &[u8], table: &mut [u32]) -> Found
+// Reads all words: how many they are. Where a word is bad the table holds the words before it.
+pub fn words(text: &[u8], table: &mut [u32]) -> Result<u32, Fault>
     ensures answer { result ≡ found_of text.now table.old }
     ensures table { table.new ≡ table_after text.now table.old }
 {
     if BYTES < text.len() {
-        return Found::NoRoom;
+        return Err(Fault::NoRoom);
     }
     if table.len() / 4 < text.len() {
-        return Found::NoRoom;
+        return Err(Fault::NoRoom);
     }
     let mut at = 0;
     let mut i = 0;
+    // no `for`: a turn goes on by the length of what it read
     while at < text.len() {
         match first_word::next(text, at) {
-            Item::Over => return Found::Words(i as u32),
-            Item::Wrong => return Found::Bad(at as u32),
+            Item::Over => return Ok(i as u32),
+            Item::Wrong => return Err(Fault::Bad(at as u32)),
             Item::Apart(n) => at += n,
             Item::Word(kind, n, v) => {
                 put(table, i, kind, at, n, v);
@@ -68,21 +60,18 @@ pub fn words(text: &[u8], table: &mut [u32]) -> Found
             }
         }
     }
-    Found::Words(i as u32)
+    Ok(i as u32)
 }
 
 // The place of the earliest of the first n words that is of row 4.
-pub fn left_out(table: &[u32], n: usize) -> Place
+pub fn left_out(table: &[u32], n: usize) -> Option<u32>
     requires { 4 * n ≤ length table.now }
     ensures { result ≡ place_told (earliest (left_in table.now 0 n)) }
 {
-    let mut first = Place::Nowhere;
-    let mut i = n;
-    while 0 < i {
-        i -= 1;
-        let p = 4 * i;
-        if is_left_out(table[p]) {
-            first = earlier(table[p + 1], first);
+    let mut first = None;
+    for i in (0..n).rev() {
+        if is_left_out(table[4 * i]) {
+            first = earlier(table[4 * i + 1], first);
         }
     }
     first
@@ -91,23 +80,15 @@ pub fn left_out(table: &[u32], n: usize) -> Place
 fn is_left_out(kind: u32) -> bool
     ensures { result ≡ left_kind kind }
 {
-    match kind {
-        kinds::FOREACH..=kinds::HASH => true,
-        _ => false,
-    }
+    matches!(kind, kinds::FOREACH..=kinds::HASH)
 }
 
 // The earlier of a place and another, if there is another.
-pub fn earlier(at: u32, other: Place) -> Place
+pub fn earlier(at: u32, other: Option<u32>) -> Option<u32>
     ensures { result ≡ earlier_of at other }
 {
-    match other {
-        Place::Nowhere => Place::At(at),
-        Place::At(p) => {
-            if at <= p {
-                return Place::At(at);
-            }
-            Place::At(p)
-        }
-    }
+    Some(match other {
+        Some(p) => at.min(p),
+        None => at,
+    })
 }

@@ -8,80 +8,80 @@ use Rattle.early_rows.proofs.first.Goals as goal
 pub fault-requires : goal.fault-requires
 fault-requires c = c.requires.n_in_bounds.0
 
-pub returns-in-At : goal.returns-in-At
+pub returns-in-Some : goal.returns-in-Some
 unfolding judged verdict_of
-returns-in-At c = λ ws a b h. sym (ap verdict_of (stops_at_law _ _ _ _ (c.fault.ensures ws a h.tells) c.in-At.is))
+returns-in-Some c = λ ws a b h. sym (ap verdict_of (stops_at_law _ _ _ _ (c.fault.ensures ws a h.tells) c.in-Some.is))
 
-pub returns-in-At-fault : goal.returns-in-At-fault
+pub returns-in-Some-fault : goal.returns-in-Some-fault
 unfolding judged verdict_of
-returns-in-At-fault c = λ ws a b h. sym (ap verdict_of (goes_on_law _ _ _ _ (c.fault.ensures ws a h.tells) c.in-Nowhere.is ∙ stops_at_law _ _ _ _ (c.fault-2.ensures ws a h.short h.tells) c.in-At-fault.is))
+returns-in-Some-fault c = λ ws a b h. sym (ap verdict_of (goes_on_law _ _ _ _ (c.fault.ensures ws a h.tells) c.in-None.is ∙ stops_at_law _ _ _ _ (c.fault-2.ensures ws a h.short h.tells) c.in-Some-fault.is))
 
-pub returns-in-At-fault-2 : goal.returns-in-At-fault-2
+pub returns-in-Some-fault-2 : goal.returns-in-Some-fault-2
 unfolding judged verdict_of
-returns-in-At-fault-2 c =
+returns-in-Some-fault-2 c =
     let args = c.args in
     let fault = c.fault in
-    let the-enum-told = c.in-Nowhere in
+    let the-enum-told = c.in-None in
     let fault2 = c.fault-2 in
-    let enum-told2 = c.in-Nowhere-fault in
+    let enum-told2 = c.in-None-fault in
     let fault3 = c.fault-3 in
     λ ws a b h. sym
     (ap verdict_of
     (goes_on_law _ _ _ _ (fault.ensures ws a h.tells) the-enum-told.is ∙ goes_on_law _ _ _ _ (fault2.ensures ws a h.short h.tells)
-    enum-told2.is ∙ stops_at_law _ _ _ _ (fault3.ensures args.text.now ws a h.tells) c.in-At-fault-2.is))
+    enum-told2.is ∙ stops_at_law _ _ _ _ (fault3.ensures args.text.now ws a h.tells) c.in-Some-fault-2.is))
 
-pub returns-in-At-strangers : goal.returns-in-At-strangers
+pub returns-in-Some-strangers : goal.returns-in-Some-strangers
 unfolding judged verdict_of
-returns-in-At-strangers c =
+returns-in-Some-strangers c =
     let args = c.args in
     let fault = c.fault in
-    let the-enum-told = c.in-Nowhere in
+    let the-enum-told = c.in-None in
     let fault2 = c.fault-2 in
-    let enum-told2 = c.in-Nowhere-fault in
+    let enum-told2 = c.in-None-fault in
     let fault3 = c.fault-3 in
-    let enum-told3 = c.in-Nowhere-fault-2 in
+    let enum-told3 = c.in-None-fault-2 in
     let strangers = c.strangers in
     λ ws a b h. sym
     (ap verdict_of
     (goes_on_law _ _ _ _ (fault.ensures ws a h.tells) the-enum-told.is ∙ goes_on_law _ _ _ _ (fault2.ensures ws a h.short h.tells)
     enum-told2.is ∙ goes_on_law _ _ _ _ (fault3.ensures args.text.now ws a h.tells) enum-told3.is ∙ stops_at_law _ _ _ _
-    (strangers.ensures ws a b h.tells h.binds) c.in-At-strangers.is))
+    (strangers.ensures ws a b h.tells h.binds) c.in-Some-strangers.is))
 
-pub returns-in-At-unsettled : goal.returns-in-At-unsettled
+pub returns-in-Some-unsettled : goal.returns-in-Some-unsettled
 unfolding judged verdict_of
-returns-in-At-unsettled c =
+returns-in-Some-unsettled c =
     let args = c.args in
     let fault = c.fault in
-    let the-enum-told = c.in-Nowhere in
+    let the-enum-told = c.in-None in
     let fault2 = c.fault-2 in
-    let enum-told2 = c.in-Nowhere-fault in
+    let enum-told2 = c.in-None-fault in
     let fault3 = c.fault-3 in
-    let enum-told3 = c.in-Nowhere-fault-2 in
+    let enum-told3 = c.in-None-fault-2 in
     let strangers = c.strangers in
-    let enum-told4 = c.in-Nowhere-strangers in
+    let enum-told4 = c.in-None-strangers in
     let unsettled = c.unsettled in
     λ ws a b h. sym
     (ap verdict_of
     (goes_on_law _ _ _ _ (fault.ensures ws a h.tells) the-enum-told.is ∙ goes_on_law _ _ _ _ (fault2.ensures ws a h.short h.tells)
     enum-told2.is ∙ goes_on_law _ _ _ _ (fault3.ensures args.text.now ws a h.tells) enum-told3.is ∙ goes_on_law _ _ _ _
     (strangers.ensures ws a b h.tells h.binds) enum-told4.is ∙ stops_at_law _ _ _ _ (unsettled.ensures ws a b h.tells h.binds)
-    c.in-At-unsettled.is))
+    c.in-Some-unsettled.is))
 
-pub returns-in-Nowhere-unsettled : goal.returns-in-Nowhere-unsettled
+pub returns-in-None-unsettled : goal.returns-in-None-unsettled
 unfolding judged verdict_of
-returns-in-Nowhere-unsettled c =
+returns-in-None-unsettled c =
     let args = c.args in
     let fault = c.fault in
-    let the-enum-told = c.in-Nowhere in
+    let the-enum-told = c.in-None in
     let fault2 = c.fault-2 in
-    let enum-told2 = c.in-Nowhere-fault in
+    let enum-told2 = c.in-None-fault in
     let fault3 = c.fault-3 in
-    let enum-told3 = c.in-Nowhere-fault-2 in
+    let enum-told3 = c.in-None-fault-2 in
     let strangers = c.strangers in
-    let enum-told4 = c.in-Nowhere-strangers in
+    let enum-told4 = c.in-None-strangers in
     λ ws a b h. sym
     (ap verdict_of
     (goes_on_law _ _ _ _ (fault.ensures ws a h.tells) the-enum-told.is ∙ goes_on_law _ _ _ _ (fault2.ensures ws a h.short h.tells)
     enum-told2.is ∙ goes_on_law _ _ _ _ (fault3.ensures args.text.now ws a h.tells) enum-told3.is ∙ goes_on_law _ _ _ _
     (strangers.ensures ws a b h.tells h.binds) enum-told4.is ∙ goes_on_law _ _ _ _
-    (c.unsettled.ensures ws a b h.tells h.binds) c.in-Nowhere-unsettled.is))
+    (c.unsettled.ensures ws a b h.tells h.binds) c.in-None-unsettled.is))

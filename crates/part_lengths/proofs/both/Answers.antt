@@ -3,10 +3,10 @@ use mathlib.Core.Path.{◌∙◌}
 use Rattle.part_lengths.specs.Parts.{both_of}
 use Rattle.part_lengths.proofs.both.Goals as goal
 
-pub returns-in-At : goal.returns-in-At
+pub returns-in-Some : goal.returns-in-Some
 unfolding both_of
-returns-in-At c = c.earlier.ensures ∙ rw c.in-At.is
+returns-in-Some c = c.earlier.ensures ∙ rw c.in-Some.is
 
-pub returns-in-Nowhere : goal.returns-in-Nowhere
+pub returns-in-None : goal.returns-in-None
 unfolding both_of
-returns-in-Nowhere c = rw c.in-Nowhere.is
+returns-in-None c = rw c.in-None.is

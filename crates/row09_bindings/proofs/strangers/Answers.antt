@@ -5,11 +5,11 @@ use mathlib.Core.List.{[]}
 use Prim.Native.Nat.{◌/◌}
 use Rattle.language.specs.Text.{earliest}
 use Rattle.words.specs.Found.{place_told}
-use Rattle.words.specs.declared.Place.TheVariants.{Nowhere}
+use Rattle.std.specs.Prelude.{None}
 use Rattle.row09_bindings.proofs.Whole.{strange_lines}
 use Rattle.row09_bindings.proofs.strangers.Goals as goal
 
-nowhere : Nowhere ≡ place_told (earliest [])
+nowhere : None ≡ place_told (earliest [])
 unfolding earliest place_told
 nowhere = refl
 

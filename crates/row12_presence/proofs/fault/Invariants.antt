@@ -2,12 +2,12 @@
 use mathlib.Core.Path.{◌≡◌}
 use Prim.Native.Nat.{◌≤◌, ◌-◌, ◌*◌}
 use lib.ListN.{take, drop}
-use Rattle.words.specs.declared.Place.TheVariants.{Nowhere}
+use Rattle.std.specs.Prelude.{None}
 use Rattle.row12_presence.specs.Walk.{walk, begin}
 use Rattle.row12_presence.proofs.fault.Given as goal
 
 abbrev pub invariant-loop-i : goal.invariant-loop-i
-invariant-loop-i l = (l.i ≤ l.many) × (walk l.met (drop (6 * l.i) (take (6 * l.many) l.items)) l.first ≡ walk begin (take (6 * l.many) l.items) Nowhere)
+invariant-loop-i l = (l.i ≤ l.many) × (walk l.met (drop (6 * l.i) (take (6 * l.many) l.items)) l.first ≡ walk begin (take (6 * l.many) l.items) None)
 
 abbrev pub decreases-loop-i : goal.decreases-loop-i
 decreases-loop-i l = l.many - l.i

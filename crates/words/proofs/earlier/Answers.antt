@@ -1,12 +1,12 @@
 -- `words::earlier` meets its contract. Assumes nothing.
-use Rattle.words.proofs.Whole.{earlier_none, earlier_this, earlier_that}
+use Rattle.std.proofs.Common.{Some, refl, ap}
+use Rattle.words.specs.Found.{earlier_of}
 use Rattle.words.proofs.earlier.Goals as goal
 
-pub returns-then-at-p : goal.returns-then-at-p
-returns-then-at-p c = earlier_this _ c.in-At.is c.if-at-p.true
+pub returns-in-Some : goal.returns-in-Some
+unfolding earlier_of
+returns-in-Some c = rw c.in-Some.is (ap Some c.min.ensures)
 
-pub returns-in-Nowhere : goal.returns-in-Nowhere
-returns-in-Nowhere c = earlier_none _ c.in-Nowhere.is
-
-pub returns-else-at-p : goal.returns-else-at-p
-returns-else-at-p c = earlier_that _ c.in-At.is c.if-at-p.false
+pub returns-in-None : goal.returns-in-None
+unfolding earlier_of
+returns-in-None c = rw c.in-None.is refl

@@ -2,10 +2,10 @@
 use Rattle.size_walk.specs.Effects.{sooner_of}
 use Rattle.size_walk.proofs.effects.sooner.Goals as goal
 
-pub returns-in-Nowhere : goal.returns-in-Nowhere
+pub returns-in-None : goal.returns-in-None
 unfolding sooner_of
-returns-in-Nowhere c = rw c.in-Nowhere.is
+returns-in-None c = rw c.in-None.is
 
-pub returns-in-At : goal.returns-in-At
+pub returns-in-Some : goal.returns-in-Some
 unfolding sooner_of
-returns-in-At c = rw c.in-At.is c.earlier.ensures
+returns-in-Some c = rw c.in-Some.is c.earlier.ensures

@@ -13,13 +13,13 @@ left_out-requires c = omega (arith, c.wide.ensures, listed_room c.requires)
 pub parsed-requires : goal.parsed-requires
 parsed-requires c = listed_filed c.requires
 
-pub returns-in-At : goal.returns-in-At
-returns-in-At c = let e = c.left_out.ensures ∙ ap (λ (n : ℕ). place_told (earliest (left_in c.args.words.now 0 n))) c.wide.ensures in
-    record { answer = left_said c.requires e c.in-At.is; tape = left_after c.requires e _ c.in-At.is; room = tt }
+pub returns-in-Some : goal.returns-in-Some
+returns-in-Some c = let e = c.left_out.ensures ∙ ap (λ (n : ℕ). place_told (earliest (left_in c.args.words.now 0 n))) c.wide.ensures in
+    record { answer = left_said c.requires e c.in-Some.is; tape = left_after c.requires e _ c.in-Some.is; room = tt }
 
-pub returns-in-Nowhere : goal.returns-in-Nowhere
-returns-in-Nowhere c = let e = c.left_out.ensures ∙ ap (λ (n : ℕ). place_told (earliest (left_in c.args.words.now 0 n))) c.wide.ensures in record {
-  answer = c.parsed.ensures.answer (listed_held c.requires) ∙ kept_said c.requires e c.in-Nowhere.is;
-  tape = c.parsed.ensures.tape (listed_held c.requires) ∙ kept_after c.requires e _ c.in-Nowhere.is;
+pub returns-in-None : goal.returns-in-None
+returns-in-None c = let e = c.left_out.ensures ∙ ap (λ (n : ℕ). place_told (earliest (left_in c.args.words.now 0 n))) c.wide.ensures in record {
+  answer = c.parsed.ensures.answer (listed_held c.requires) ∙ kept_said c.requires e c.in-None.is;
+  tape = c.parsed.ensures.tape (listed_held c.requires) ∙ kept_after c.requires e _ c.in-None.is;
   room = c.parsed.ensures.room;
 }

@@ -9,13 +9,13 @@ pub returns-then-text-gt-BYTES : goal.returns-then-text-gt-BYTES
 returns-then-text-gt-BYTES c = record { answer = long_said _ c.if-text-gt-BYTES.true; tape = long_after _ _ c.if-text-gt-BYTES.true; room = tt }
 
 pub listed-requires : goal.listed-requires
-listed-requires c = found_words _ _ (omega arith) (search rules) c.words.ensures.table (sym c.in-Words.is ∙ c.words.ensures.answer)
+listed-requires c = found_words _ _ (omega arith) (search rules) c.words.ensures.table (sym c.in-Ok.is ∙ c.words.ensures.answer)
 
-pub returns-in-Words : goal.returns-in-Words
-returns-in-Words c = record { answer = c.listed.ensures.answer ∙ short_said _ (omega arith); tape = c.listed.ensures.tape ∙ short_after _ _ (omega arith); room = c.listed.ensures.room }
+pub returns-in-Ok : goal.returns-in-Ok
+returns-in-Ok c = record { answer = c.listed.ensures.answer ∙ short_said _ (omega arith); tape = c.listed.ensures.tape ∙ short_after _ _ (omega arith); room = c.listed.ensures.room }
 
-pub returns-in-Bad : goal.returns-in-Bad
-returns-in-Bad c = let e = sym c.in-Bad.is ∙ c.words.ensures.answer in record { answer = bad_said _ _ (omega arith) (search rules) e ∙ short_said _ (omega arith); tape = bad_after _ _ (omega arith) (search rules) _ e ∙ short_after _ _ (omega arith); room = tt }
+pub returns-in-Err-Bad : goal.returns-in-Err-Bad
+returns-in-Err-Bad c = let e = sym c.in-Err-Bad.is ∙ c.words.ensures.answer in record { answer = bad_said _ _ (omega arith) (search rules) e ∙ short_said _ (omega arith); tape = bad_after _ _ (omega arith) (search rules) _ e ∙ short_after _ _ (omega arith); room = tt }
 
-pub returns-in-NoRoom : goal.returns-in-NoRoom
-returns-in-NoRoom c = absurd (found_some _ _ (omega arith) (search rules) (sym c.in-NoRoom.is ∙ c.words.ensures.answer))
+pub returns-in-Err-NoRoom : goal.returns-in-Err-NoRoom
+returns-in-Err-NoRoom c = absurd (found_some _ _ (omega arith) (search rules) (sym c.in-Err-NoRoom.is ∙ c.words.ensures.answer))

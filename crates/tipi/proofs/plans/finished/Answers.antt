@@ -8,19 +8,19 @@ made-requires c =
     let a = c in
     let h = a.requires.settled.2 in
     let f = c.fault.ensures in
-    let g = sum_fits h f.first c.fault-in-Nowhere.ensures c.in-Nowhere.is c.in-Nowhere-fault.is _ _ _ f.code f.lengths in
+    let g = sum_fits h f.first c.fault-in-None.ensures c.in-None.is c.in-None-fault.is _ _ _ f.code f.lengths in
     (a.requires.many_le_most_items.0, a.requires.many_le_most_items.1, search rules, g, search rules)
 
-pub returns-in-At : goal.returns-in-At
-returns-in-At c = λ ws s h. sizes_refused h c.fault.ensures.first _ c.in-At.is
+pub returns-in-Some : goal.returns-in-Some
+returns-in-Some c = λ ws s h. sizes_refused h c.fault.ensures.first _ c.in-Some.is
 
-pub returns-in-At-fault : goal.returns-in-At-fault
-returns-in-At-fault c = λ ws s h. presence_refused h c.fault.ensures.first c.fault-in-Nowhere.ensures c.in-Nowhere.is _ c.in-At-fault.is
+pub returns-in-Some-fault : goal.returns-in-Some-fault
+returns-in-Some-fault c = λ ws s h. presence_refused h c.fault.ensures.first c.fault-in-None.ensures c.in-None.is _ c.in-Some-fault.is
 
-pub returns-in-Nowhere-fault : goal.returns-in-Nowhere-fault
-returns-in-Nowhere-fault c =
+pub returns-in-None-fault : goal.returns-in-None-fault
+returns-in-None-fault c =
     let f = c.fault.ensures in
     let m = c.made.ensures in
-    let n = c.in-Nowhere.is in
-    let o = c.in-Nowhere-fault.is in
-    λ ws s h. made_told h f.first c.fault-in-Nowhere.ensures n o _ _ _ f.code f.lengths m.answer m.table
+    let n = c.in-None.is in
+    let o = c.in-None-fault.is in
+    λ ws s h. made_told h f.first c.fault-in-None.ensures n o _ _ _ f.code f.lengths m.answer m.table
