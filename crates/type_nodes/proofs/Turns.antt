@@ -2,6 +2,7 @@
 use mathlib.Core.Path.{◌≡◌, refl, sym, ap, ap₂, ◌∙◌}
 use mathlib.Core.Bool.{Bool, true, false}
 use mathlib.Core.List.{List, [], ◌∷◌}
+use mathlib.Core.Logic.{◌⊎◌, inl, inr}
 use Prim.Native.Nat.{ℕ, zero, suc, ◌+◌, ◌-◌, ◌*◌, ◌/◌, ◌≤◌, ◌<◌}
 use native.Mathlib.Omega.{arith}
 use native.Mathlib.Numerals.{add-one}
@@ -12,7 +13,10 @@ use Rattle.placed.specs.Placed.{name_from}
 use Rattle.tape.specs.Walk.{op_at, place_at, value_at}
 use Rattle.tape.proofs.Tapes.{item_at_law}
 use Rattle.row09_bindings.specs.Lines.{names_on}
-use Rattle.type_nodes.specs.Codes.{role_of, is_over, counted_of, counts_over, Env, signed_names, port_of, value_or, value_of, number_node, node_of, grown_of, stops_at, left_of, kept_of, sought_in}
+use Rattle.type_nodes.specs.Codes.{role_in, role_of, is_over, counted_of, counts_over, Env, signed_names, port_of, value_or, value_of, number_node, node_of, grown_of, stops_at, left_of, kept_of, sought_in}
+use Rattle.tape.specs.Nodes.{node_of as tape_node_of}
+use Rattle.tape.specs.declared.Node.{Node as Tape-as-Node}
+use Rattle.tape.specs.declared.Node.TheVariants.{Number, Name, Port, Join, Minus, Log, Whole, Most, Within, Other}
 use Rattle.type_nodes.specs.declared.Role.{Role}
 use Rattle.type_nodes.specs.declared.Role.TheVariants.{Node, Keep, Signed, Declared, Memory, Over, Clear}
 use Rattle.type_nodes.specs.declared.Goal.{Goal}
@@ -21,15 +25,57 @@ use Rattle.type_nodes.specs.declared.Counts.{Counts}
 
 -- ---- the last arm
 
-pub not_over_law : (k : Role) → (k ≡ Over → ⊥) → (false ≡ is_over k) × ((n : ℕ) → n ≡ kept_of k 0 n)
-unfolding is_over kept_of
-not_over_law Node _ = (refl, λ n. refl)
-not_over_law Keep _ = (refl, λ n. refl)
-not_over_law Signed _ = (refl, λ n. refl)
-not_over_law Declared _ = (refl, λ n. refl)
-not_over_law Memory _ = (refl, λ n. refl)
+pub not_over_law : (k : Role) → (k ≡ Over → ⊥) → false ≡ is_over k
+unfolding is_over
+not_over_law Node _ = refl
+not_over_law Keep _ = refl
+not_over_law Signed _ = refl
+not_over_law Declared _ = refl
+not_over_law Memory _ = refl
 not_over_law Over h0 = absurd (h0 refl)
-not_over_law Clear _ = (refl, λ n. refl)
+not_over_law Clear _ = refl
+
+pub kept_over : (k : Role) (n : ℕ) → is_over k ≡ true → 0 ≡ kept_of k 0 n
+unfolding is_over kept_of
+kept_over Node n e = cc
+kept_over Keep n e = cc
+kept_over Signed n e = cc
+kept_over Declared n e = cc
+kept_over Memory n e = cc
+kept_over Over n e = refl
+kept_over Clear n e = cc
+
+pub kept_before : (k : Role) (n : ℕ) → is_over k ≡ false → n ≡ kept_of k 0 n
+unfolding is_over kept_of
+kept_before Node n e = refl
+kept_before Keep n e = refl
+kept_before Signed n e = refl
+kept_before Declared n e = refl
+kept_before Memory n e = refl
+kept_before Over n e = cc
+kept_before Clear n e = refl
+
+-- what an item is to the declared types, by what it is in a type
+pub kept_node : (o : ℕ) {n : Tape-as-Node} → n ≡ tape_node_of o → (n ≡ Most) ⊎ (n ≡ Within) → Keep ≡ role_of o
+unfolding role_in
+kept_node o e (inl h) = ap (λ (k : Tape-as-Node). role_in k o) (sym h ∙ e)
+kept_node o e (inr h) = ap (λ (k : Tape-as-Node). role_in k o) (sym h ∙ e)
+
+a_node_in : (n : Tape-as-Node) (o : ℕ) → (n ≡ Most → ⊥) → (n ≡ Within → ⊥) → (n ≡ Other → ⊥) → Node ≡ role_in n o
+unfolding role_in
+a_node_in Number o _ _ _ = refl
+a_node_in Name o _ _ _ = refl
+a_node_in Port o _ _ _ = refl
+a_node_in Join o _ _ _ = refl
+a_node_in Minus o _ _ _ = refl
+a_node_in Log o _ _ _ = refl
+a_node_in Whole o _ _ _ = refl
+a_node_in Most o h _ _ = absurd (h refl)
+a_node_in Within o _ h _ = absurd (h refl)
+a_node_in Other o _ _ h = absurd (h refl)
+
+pub a_node : (o : ℕ) {n : Tape-as-Node} → n ≡ tape_node_of o → (n ≡ Most → ⊥) → (n ≡ Within → ⊥) → (n ≡ Other → ⊥) → Node ≡ role_of o
+a_node o {n} e h k l = a_node_in n o h k l ∙ ap (λ (m : Tape-as-Node). role_in m o) e
 
 pub not_counted_law : (c : Counts) (k : Role) → (k ≡ Signed → ⊥) → (k ≡ Memory → ⊥) → c ≡ counted_of c k
 unfolding counted_of

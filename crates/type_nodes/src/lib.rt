@@ -64,16 +64,9 @@ pub fn role_of(op: u32) -> Role
     ensures { result ≡ role_of op }
 {
     match node_of(op) {
-        Node::Number => Role::Node,
-        Node::Name => Role::Node,
-        Node::Port => Role::Node,
-        Node::Join => Role::Node,
-        Node::Minus => Role::Node,
-        Node::Log => Role::Node,
-        Node::Whole => Role::Node,
-        Node::Most => Role::Keep,
-        Node::Within => Role::Keep,
+        Node::Most | Node::Within => Role::Keep,
         Node::Other => outside(op),
+        _ => Role::Node,
     }
 }
 
@@ -86,14 +79,12 @@ pub fn declared(tape: &[u32], n: usize) -> Counts
         ports: 0,
         memories: 0,
     };
-    let mut i = 0;
-    while i < n / 3 {
+    for i in 0..n / 3 {
         let role = role_of(tape[3 * i]);
         if is_over(role) {
             return c;
         }
         c = counted(c, role);
-        i += 1;
     }
     c
 }
@@ -101,10 +92,7 @@ pub fn declared(tape: &[u32], n: usize) -> Counts
 fn is_over(role: Role) -> bool
     ensures { result ≡ is_over role }
 {
-    match role {
-        Role::Over => true,
-        _ => false,
-    }
+    matches!(role, Role::Over)
 }
 
 fn counted(c: Counts, role: Role) -> Counts
@@ -136,14 +124,12 @@ fn port_index(text: &[u8], tape: &[u32], ports: usize, place: usize) -> usize
     requires { 3 * ports + 3 ≤ length tape.now }
     ensures { (result ≡ index (signed_names text.now tape.now 1 ports) (name_from text.now place)) × (result ≤ ports) }
 {
-    let mut i = 0;
-    while i < ports {
+    for i in 0..ports {
         if tape::same_name(text, wide(tape[3 * (i + 1) + 1]), place) {
             return i;
         }
-        i += 1;
     }
-    i
+    ports
 }
 
 // The value of line i before the end of its section, or 0.
@@ -191,16 +177,10 @@ pub fn node(
 pub fn stops(text: &[u8], goal: Goal, role: Role, place: usize) -> bool
     ensures { result ≡ stops_at text.now goal role place }
 {
-    match role {
-        Role::Over => true,
-        Role::Declared => match goal {
-            Goal::Port(p) => tape::same_name(text, place, p),
-            Goal::Memory(_) => false,
-        },
-        Role::Memory => match goal {
-            Goal::Port(_) => false,
-            Goal::Memory(i) => i == 0,
-        },
+    match (role, goal) {
+        (Role::Over, _) => true,
+        (Role::Declared, Goal::Port(p)) => tape::same_name(text, place, p),
+        (Role::Memory, Goal::Memory(i)) => i == 0,
         _ => false,
     }
 }
@@ -209,26 +189,14 @@ pub fn stops(text: &[u8], goal: Goal, role: Role, place: usize) -> bool
 pub fn left(goal: Goal, role: Role) -> Goal
     ensures { result ≡ left_of goal role }
 {
-    match role {
-        Role::Memory => match goal {
-            Goal::Port(p) => Goal::Port(p),
-            Goal::Memory(i) => Goal::Memory(less(i)),
-        },
+    match (role, goal) {
+        (Role::Memory, Goal::Memory(i)) => Goal::Memory(i.saturating_sub(1)),
         _ => goal,
     }
-}
-
-fn less(n: usize) -> usize
-    ensures { result ≡ n - 1 }
-{
-    if n == 0 { 0 } else { n - 1 }
 }
 
 pub fn kept(role: Role, len: usize) -> usize
     ensures { result ≡ kept_of role 0 len }
 {
-    match role {
-        Role::Over => 0,
-        _ => len,
-    }
+    if is_over(role) { 0 } else { len }
 }

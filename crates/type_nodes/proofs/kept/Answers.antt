@@ -1,11 +1,10 @@
--- `row10_widths::codes::kept` meets its contract. Assumes nothing.
-use Rattle.type_nodes.specs.Codes.{kept_of}
-use Rattle.type_nodes.proofs.Turns.{not_over_law}
+-- `type_nodes::kept` meets its contract. Assumes nothing.
+use Rattle.std.proofs.Common.{sym, ◌∙◌}
+use Rattle.type_nodes.proofs.Turns.{kept_over, kept_before}
 use Rattle.type_nodes.proofs.kept.Goals as goal
 
-pub returns-in-Over : goal.returns-in-Over
-unfolding kept_of
-returns-in-Over c = rw c.in-Over.is
+pub returns-then-is_over : goal.returns-then-is_over
+returns-then-is_over c = kept_over _ _ (sym c.is_over.ensures ∙ c.if-is_over.true)
 
-pub returns-in_default : goal.returns-in_default
-returns-in_default c = (not_over_law _ c.in_default.not-Over).1 _
+pub returns-else-is_over : goal.returns-else-is_over
+returns-else-is_over c = kept_before _ _ (sym c.is_over.ensures ∙ c.if-is_over.false)
