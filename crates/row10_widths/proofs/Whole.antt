@@ -32,7 +32,7 @@ use Rattle.typing.proofs.Accepted.{All, terms_right, coded}
 use Rattle.row09_bindings.specs.Lines.{names_on}
 use Rattle.type_nodes.specs.Codes.{Env, env, port_of, value_or, value_of, number_node, capped, sought_in, some_nodes, port_nodes, want_nodes, signed_names, tally, counts_over, Slotted}
 use Rattle.row10_widths.specs.Row.{Asked, Settles}
-use Rattle.row10_widths.specs.declared.Answer.TheVariants.{Widths, Nothing}
+use Rattle.std.specs.Prelude.{Some, None}
 use Rattle.type_nodes.specs.declared.Counts.{Counts}
 use Rattle.type_nodes.specs.declared.Goal.TheVariants.{Port as PortAt, Memory as MemoryAt}
 use Rattle.row10_widths.proofs.Nodes.{nodes_code, number_node_law}
@@ -107,8 +107,8 @@ module _ (a : Actor) (b : Bindings) where
 -- the code of all wanted widths, and what the answer to it settles
 pub record Laid (a : Actor) (b : Bindings) (cells starts ends : List ℕ) (all : ℕ) : Type 0 where
   pub coded : Coded (terms_of a b) cells (take all starts) (take all ends)
-  pub yes : (xs before : List ℕ) {g : Bool} → g ≡ true → Answer g (terms_of a b) xs → Settles a b (Widths all) before (xs ++ drop all before)
-  pub no : (xs before : List ℕ) {g : Bool} → g ≡ false → Answer g (terms_of a b) xs → Settles a b Nothing before (xs ++ drop all before)
+  pub yes : (xs before : List ℕ) {g : Bool} → g ≡ true → Answer g (terms_of a b) xs → Settles a b (Some all) before (xs ++ drop all before)
+  pub no : (xs before : List ℕ) {g : Bool} → g ≡ false → Answer g (terms_of a b) xs → Settles a b None before (xs ++ drop all before)
 
 module _ (text t : List ℕ) (n : ℕ) (btext table : List ℕ) (lines : Lines) {ws : List Word} {a : Actor} {b : Bindings} (low : n ≤ length t) (h : Asked text t n btext table lines ws a b) where
   abbrev e : Env
@@ -255,7 +255,7 @@ module _ (text t : List ℕ) (n : ℕ) (btext table : List ℕ) (lines : Lines) 
     past : (xs before : List ℕ) → length xs ≡ length (terms_of a b) → drop (length (wants a b)) (cells_of xs before) ≡ drop (length (wants a b)) before
     past xs before f = let w = wants_long in let z = as_many a b in drop_at xs (drop all before) (length (wants a b)) (omega arith) ∙ ap (λ (j : ℕ). drop j before) (sym as_all)
 
-    found_widths : (xs before : List ℕ) {g : Bool} → g ≡ true → Answer g (terms_of a b) xs → Settles a b (Widths all) before (cells_of xs before)
+    found_widths : (xs before : List ℕ) {g : Bool} → g ≡ true → Answer g (terms_of a b) xs → Settles a b (Some all) before (cells_of xs before)
     found_widths xs before f u =
         let l = subst (λ (g : Bool). Answer g (terms_of a b) xs) f u in
         let v = l.solves.long in
@@ -266,7 +266,7 @@ module _ (text t : List ℕ) (n : ℕ) (btext table : List ℕ) (lines : Lines) 
           fits = let n = length-append xs (drop all before) in let w = wants_long in let z = as_many a b in let y = v in omega arith;
         }
 
-    no_widths : (xs before : List ℕ) {g : Bool} → g ≡ false → Answer g (terms_of a b) xs → Settles a b Nothing before (cells_of xs before)
+    no_widths : (xs before : List ℕ) {g : Bool} → g ≡ false → Answer g (terms_of a b) xs → Settles a b None before (cells_of xs before)
     no_widths xs before f u =
         let l = subst (λ (g : Bool). Answer g (terms_of a b) xs) f u in
         let v = ap length l.1 ∙ length-replicate (length (terms_of a b)) 0 in

@@ -12,8 +12,11 @@ use Rattle.language.specs.Widths.{wants, Resolved}
 use Rattle.tape.specs.Row.{Tells}
 use Rattle.bindings.specs.declared.Lines.{Lines}
 use Rattle.row09_bindings.specs.Lines.{Binds}
-use Rattle.row10_widths.specs.declared.Answer.{Answer}
-use Rattle.row10_widths.specs.declared.Answer.TheVariants.{Widths, Nothing}
+use Rattle.std.specs.Prelude.{Option as Optional, Some, None}
+
+-- how many widths there are, or that none satisfy every type
+abbrev pub Answer : Type 0
+Answer = Optional ℕ
 
 -- the actor has no fault of rows 6 to 8
 pub record Passed (ws : List Word) (a : Actor) : Type 0 where
@@ -28,18 +31,18 @@ pub record Asked (text t : List ℕ) (n : ℕ) (btext table : List ℕ) (lines :
 
 -- the widths, in the first cells
 abbrev pub told : Answer → List ℕ → Option (List ℕ)
-told (Widths c) cells = some (take c cells)
-told Nothing cells = none
+told (Some c) cells = some (take c cells)
+told None cells = none
 
 -- there are as many cells
 abbrev pub Fits : Answer → List ℕ → Type 0
-Fits (Widths c) cells = c ≤ length cells
-Fits Nothing cells = Unit {0}
+Fits (Some c) cells = c ≤ length cells
+Fits None cells = Unit {0}
 
 -- what is answered, and what the cells held before and hold then: the widths or, where there are none, zeros; what stands past them is as it was
 pub record Settles (a : Actor) (b : Bindings) (r : Answer) (before cells : List ℕ) : Type 0 where
   pub resolved : Resolved a b (told r cells)
-  pub zeros : r ≡ Nothing → take (length (wants a b)) cells ≡ replicate (length (wants a b)) 0
+  pub zeros : r ≡ None → take (length (wants a b)) cells ≡ replicate (length (wants a b)) 0
   pub rest : drop (length (wants a b)) cells ≡ drop (length (wants a b)) before
   pub fits : Fits r cells
 

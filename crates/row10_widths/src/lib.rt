@@ -16,13 +16,6 @@ use language::{Plan, Type};
 use type_codes::want_code;
 use type_nodes::declared;
 
-// So many widths, or none that satisfy every type.
-#[derive(Clone, Copy)]
-pub enum Answer {
-    Widths(usize),
-    Nothing,
-}
-
 const WORDS: usize = Type::WORDS as usize;
 
 // As many widths as there may be ports and memories, and a slot of code for each.
@@ -30,7 +23,7 @@ const WIDTHS: usize = (Plan::PORTS + Plan::MEMORIES) as usize;
 
 const NODES: usize = WIDTHS * WORDS;
 
-// The least widths that satisfy every type.
+// The least widths that satisfy every type: how many they are, or that none do.
 pub fn solved(
     text: &[u8],
     tape: &[u32],
@@ -39,7 +32,7 @@ pub fn solved(
     table: &[u32],
     lines: Lines,
     widths: &mut [u32],
-) -> Answer
+) -> Option<usize>
     requires n_in_bounds { (n ≤ length tape.now) × Lined lines table.now × (limits.ports + limits.memories ≤ length widths.old) }
     requires asked { (ws : List Word) × (a : Actor) × (b : Bindings) × Asked text.now tape.now n btext.now table.now lines ws a b }
     ensures { SolvedTold text.now tape.now n btext.now table.now lines result widths.old widths.new }
@@ -50,14 +43,12 @@ pub fn solved(
     let c = declared(tape, n);
     let ports = c.ports;
     let all = ports + c.memories;
-    let mut i = 0;
-    while i < all {
+    for i in 0..all {
         starts[i] = WORDS * i;
         ends[i] = WORDS * i + want_code(text, tape, n, btext, table, lines, ports, i, &mut code);
-        i += 1;
     }
     if typing::solve(&code, &starts[..all], &ends[..all], &mut widths[..all]) {
-        return Answer::Widths(all);
+        return Some(all);
     }
-    Answer::Nothing
+    None
 }

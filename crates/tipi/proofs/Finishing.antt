@@ -46,7 +46,7 @@ use Rattle.settle.proofs.Whole.{walked_few, settled_is}
 use Rattle.bindings.specs.declared.Lines.{Lines}
 use Rattle.row10_widths.specs.Row.{Settles, Fits, told}
 use Rattle.row10_widths.specs.declared.Answer as resolved_answer
-use Rattle.row10_widths.specs.declared.Answer.TheVariants.{Widths, Nothing}
+use Rattle.std.specs.Prelude.{Some, None}
 use Rattle.tipi.specs.Told.{answer_of, table_after, Told, goes, After, Heard, Settled, late_of}
 use Rattle.plan_answer.specs.Answered.{made_of, sums}
 use Rattle.plan_answer.specs.declared.Answer.{Answer}
@@ -231,13 +231,13 @@ whole_there items {r} e f = let g = ap length f in let h = length-take r items i
 -- ---- row 10
 
 module _ {a : Actor} {b : Bindings} {r : resolved_answer.Answer} {before cells : List ℕ} (h : Settles a b r before cells) where
-  pub few_widths : {w : ℕ} → r ≡ Widths w → w ≤ length cells
+  pub few_widths : {w : ℕ} → r ≡ Some w → w ≤ length cells
   few_widths e = subst (λ (x : resolved_answer.Answer). Fits x cells) e h.fits
 
-  pub least_widths : {w : ℕ} → r ≡ Widths w → Least a b (take w cells)
+  pub least_widths : {w : ℕ} → r ≡ Some w → Least a b (take w cells)
   least_widths e = subst (λ (x : resolved_answer.Answer). Resolved a b (told x cells)) e h.resolved
 
-  pub no_widths : r ≡ Nothing → (before : List ℕ) → After (through a b) (Refused 10 InActor 0) before before
+  pub no_widths : r ≡ None → (before : List ℕ) → After (through a b) (Refused 10 InActor 0) before before
   unfolding late answer_of table_after
   no_widths e before = record { what = late a b none; follows = goes none (subst (λ (x : resolved_answer.Answer). Resolved a b (told x cells)) e h.resolved); told = record { answer = refl; table = refl } }
 

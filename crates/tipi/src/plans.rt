@@ -76,7 +76,7 @@ pub fn planned(
 {
     let mut widths = [0u32; WIDTHS];
     match row10_widths::solved(text, tape, n, btext, table, lines, &mut widths) {
-        row10_widths::Answer::Widths(w) => sized(
+        Some(w) => sized(
             text,
             tape,
             n,
@@ -86,6 +86,6 @@ pub fn planned(
             &widths[..w],
             plan,
         ),
-        row10_widths::Answer::Nothing => Answer::Refused(10, Text::Actor, 0),
+        None => Answer::Refused(10, Text::Actor, 0),
     }
 }

@@ -48,8 +48,7 @@ fn type_code(
 {
     let mut g = goal;
     let mut len = 0;
-    let mut i = 0;
-    while i < n / 3 {
+    for i in 0..n / 3 {
         let role = role_of(tape[3 * i]);
         if stops(text, g, role, wide(tape[3 * i + 1])) {
             return kept(role, len);
@@ -58,7 +57,6 @@ fn type_code(
             text, tape, btext, table, lines, ports, i, role, code, at, len,
         );
         g = left(g, role);
-        i += 1;
     }
     0
 }

@@ -18,12 +18,12 @@ pub loop-i-init : goal.loop-i-init
 loop-i-init c =
     let s = c in
     let z = few_declared s.args.text.now s.args.tape.now s.args.n s.args.btext.now s.args.table.now s.args.lines s.requires.n_in_bounds.0 s.requires.asked.3 c.declared-c.ensures in
-    (omega arith, omega (arith, z.0, z.1), z.0, z.2, refl, refl, refl, no_slots _ _ _ _ _)
+    (omega (arith, z.0, z.1), z.0, z.2, refl, refl, refl, no_slots _ _ _ _ _)
 
 pub loop-i-preserved : goal.loop-i-preserved
 loop-i-preserved c =
     let l = c.loop-i in
-    (omega arith, l.invariant.1, l.invariant.2, l.invariant.3, c.want_code.ensures.long ∙ l.invariant.4, length-set l.starts l.i (64 * l.i) ∙ l.invariant.5, length-set l.ends l.i (64 * l.i + c.want_code.result) ∙ l.invariant.6, one_slot l.invariant.7 (omega arith) (omega arith) c.want_code.ensures)
+    (l.invariant.0, l.invariant.1, l.invariant.2, c.want_code.ensures.long ∙ l.invariant.3, length-set l.starts l.i (64 * l.i) ∙ l.invariant.4, length-set l.ends l.i (64 * l.i + c.want_code.result) ∙ l.invariant.5, one_slot l.invariant.6 (omega arith) (omega arith) c.want_code.ensures)
 
 pub slice_bounds-solve-end-2 : goal.slice_bounds-solve-end-2
 slice_bounds-solve-end-2 c =
@@ -62,8 +62,8 @@ solve-requires c =
       coded = (
         terms_of s.requires.asked.1 s.requires.asked.2,
         (laid s.args.text.now s.args.tape.now s.args.n s.args.btext.now s.args.table.now s.args.lines s.requires.n_in_bounds.0
-            s.requires.asked.3 declared.ensures l.code l.starts l.ends l.i (omega arith) l.invariant.7 l.invariant.4 l.invariant.5
-            l.invariant.6).coded,
+            s.requires.asked.3 declared.ensures l.code l.starts l.ends l.i (omega arith) l.invariant.6 l.invariant.3 l.invariant.4
+            l.invariant.5).coded,
       );
       ws_len = omega arith;
     }
@@ -72,12 +72,12 @@ pub returns-then-solve : goal.returns-then-solve
 returns-then-solve c = λ ws a b h.
     let s = c in
     let l = c.loop-i in
-    let r = laid s.args.text.now s.args.tape.now s.args.n s.args.btext.now s.args.table.now s.args.lines s.requires.n_in_bounds.0 h c.declared-c.ensures l.code l.starts l.ends l.i (omega arith) l.invariant.7 l.invariant.4 l.invariant.5 l.invariant.6 in
+    let r = laid s.args.text.now s.args.tape.now s.args.n s.args.btext.now s.args.table.now s.args.lines s.requires.n_in_bounds.0 h c.declared-c.ensures l.code l.starts l.ends l.i (omega arith) l.invariant.6 l.invariant.3 l.invariant.4 l.invariant.5 in
     r.yes _ _ c.if-solve.true (c.solve.ensures (terms_of a b) r.coded)
 
 pub returns : goal.returns
 returns c = λ ws a b h.
     let s = c in
     let l = c.loop-i in
-    let r = laid s.args.text.now s.args.tape.now s.args.n s.args.btext.now s.args.table.now s.args.lines s.requires.n_in_bounds.0 h c.declared-c.ensures l.code l.starts l.ends l.i (omega arith) l.invariant.7 l.invariant.4 l.invariant.5 l.invariant.6 in
+    let r = laid s.args.text.now s.args.tape.now s.args.n s.args.btext.now s.args.table.now s.args.lines s.requires.n_in_bounds.0 h c.declared-c.ensures l.code l.starts l.ends l.i (omega arith) l.invariant.6 l.invariant.3 l.invariant.4 l.invariant.5 in
     r.no _ _ c.if-solve.false (c.solve.ensures (terms_of a b) r.coded)

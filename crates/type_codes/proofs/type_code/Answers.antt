@@ -9,7 +9,7 @@ use Rattle.type_nodes.proofs.Turns.{search_stop, search_more, search_end}
 use Rattle.type_codes.proofs.type_code.Goals as goal
 
 pub loop-i-init : goal.loop-i-init
-loop-i-init c = (omega arith, omega arith, refl, refl, refl)
+loop-i-init c = (omega arith, refl, refl, refl)
 
 pub returns-then-stops : goal.returns-then-stops
 returns-then-stops c =
@@ -26,9 +26,9 @@ returns-then-stops c =
           search_stop args.tape.now args.n loop.i pre.n_in_bounds.0
           (env args.text.now args.tape.now args.btext.now args.table.now args.lines args.ports) loop.g
           (take loop.len (drop args.at loop.code)) loop-test.true role-of.ensures wide.ensures
-          (sym c.stops.ensures ∙ c.if-stops.true) ∙ loop.invariant.4;
-      before = loop.invariant.3;
-      long = loop.invariant.2;
+          (sym c.stops.ensures ∙ c.if-stops.true) ∙ loop.invariant.3;
+      before = loop.invariant.2;
+      long = loop.invariant.1;
     }
 
 pub loop-i-preserved : goal.loop-i-preserved
@@ -42,14 +42,13 @@ loop-i-preserved c =
     let stops = c.stops in
     let if1 = c.if-stops in
     let grown = c.grown-len in (
-      omega arith,
       grown.ensures.few,
-      grown.ensures.long ∙ loop.invariant.2,
-      grown.ensures.before ∙ loop.invariant.3,
+      grown.ensures.long ∙ loop.invariant.1,
+      grown.ensures.before ∙ loop.invariant.2,
       search_more args.tape.now
           args.n loop.i pre.n_in_bounds.0 (env args.text.now args.tape.now args.btext.now args.table.now args.lines args.ports)
           loop.g (take loop.len (drop args.at loop.code)) loop-test.true role-of.ensures wide.ensures
-          (sym stops.ensures ∙ if1.false) c.left-g.ensures grown.ensures.is ∙ loop.invariant.4,
+          (sym stops.ensures ∙ if1.false) c.left-g.ensures grown.ensures.is ∙ loop.invariant.3,
     )
 
 pub returns : goal.returns
@@ -61,7 +60,7 @@ returns c =
       few = omega arith;
       is = search_end args.tape.now args.n loop.i pre.n_in_bounds.0
           (env args.text.now args.tape.now args.btext.now args.table.now args.lines args.ports) loop.g
-          (take loop.len (drop args.at loop.code)) (omega arith) ∙ loop.invariant.4;
-      before = loop.invariant.3;
-      long = loop.invariant.2;
+          (take loop.len (drop args.at loop.code)) (omega arith) ∙ loop.invariant.3;
+      before = loop.invariant.2;
+      long = loop.invariant.1;
     }
