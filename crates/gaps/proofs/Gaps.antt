@@ -124,3 +124,11 @@ passing_next text at i n w e h k =
       enough = omega (arith, w.enough);
       goes = w.goes ∙ ap (λ (x : ℕ). after_gaps x (drop i text)) f ∙ after_some (w.fuel - 1) (n - 1) (drop i text) (sym e ∙ m) ∙ ap (after_gaps (w.fuel - 1)) (ap (λ (x : ℕ). drop x (drop i text)) (sym m) ∙ drop-drop n i text);
     }
+
+-- ---- what the functions use
+
+pub ruleset close_laws = (close_over, close_here, raised_zero, raised_some)
+
+pub ruleset gap_laws = (gap_over, gap_blank, gap_line, gap_none, gap_comment, raised_zero, raised_some)
+
+pub ruleset passing_laws = (passing_start, passing_next, passing_done)

@@ -15,7 +15,7 @@ fn is_blank(b: u8) -> bool
 }
 
 // How many bytes there are up to the end of the first `*/`.
-#[tactic(auto, using(crate::proofs::Gaps::close_over, crate::proofs::Gaps::close_here, crate::proofs::Gaps::close_next, crate::proofs::Gaps::raised_none, crate::proofs::Gaps::raised_zero, crate::proofs::Gaps::raised_some))]
+#[tactic(auto, using(crate::proofs::Gaps::close_laws))]
 fn close(text: &[u8], at: usize) -> Option<usize>
     requires { at ≤ length text.now }
     ensures none { IsNone result → close_of (drop at text.now) ≡ 0 }
@@ -31,7 +31,7 @@ fn close(text: &[u8], at: usize) -> Option<usize>
 }
 
 // How long the separator at a place is; 0 where none stands there.
-#[tactic(auto, using(crate::proofs::Gaps::gap_over, crate::proofs::Gaps::gap_blank, crate::proofs::Gaps::gap_line, crate::proofs::Gaps::gap_none, crate::proofs::Gaps::gap_comment, crate::proofs::Gaps::raised_zero, crate::proofs::Gaps::raised_some))]
+#[tactic(auto, using(crate::proofs::Gaps::gap_laws))]
 pub fn gap(text: &[u8], at: usize) -> usize
     requires { at ≤ length text.now }
     ensures { GapAt text.now at result }
@@ -51,7 +51,7 @@ pub fn gap(text: &[u8], at: usize) -> usize
 }
 
 // The place after all separators.
-#[tactic(auto, using(crate::proofs::Gaps::passing_start, crate::proofs::Gaps::passing_next, crate::proofs::Gaps::passing_done))]
+#[tactic(auto, using(crate::proofs::Gaps::passing_laws))]
 pub fn after_gaps(text: &[u8], at: usize) -> usize
     requires { at ≤ length text.now }
     ensures { AfterGaps text.now at result }
