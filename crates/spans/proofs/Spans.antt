@@ -32,7 +32,7 @@ span_std t (b ∷ r) =
       | false ↦ refl
     ]
 
-rest_std : (text : List ℕ) (at : ℕ) → take (length text - at) (drop at text) ≡ drop at text
+pub rest_std : (text : List ℕ) (at : ℕ) → take (length text - at) (drop at text) ≡ drop at text
 rest_std text at = take_all (length text - at) (drop at text) (omega (arith, length-drop at text))
 
 pub span_counted : (t : ℕ → Bool) (text : List ℕ) (at n : ℕ) → at ≤ length text → n ≡ length (take (prefix_len t (take (length text - at) (drop at text))) (take (length text - at) (drop at text))) → (at + n ≤ length text) × (n ≡ length (span t (drop at text)))
