@@ -1,33 +1,15 @@
 -- Laws of blanks, comments and separators, each at a place of a text. Assumes nothing.
 use mathlib.Core.Path.{◌≡◌, refl, sym, ap, ◌∙◌}
-use mathlib.Core.Bool.{Bool, true, false}
+use mathlib.Core.Bool.{true, false}
 use mathlib.Core.List.{List, [], ◌∷◌}
 use Prim.Native.Nat.{ℕ, zero, suc, ◌+◌, ◌-◌, ◌≤◌, ◌<◌}
 use native.Mathlib.Omega.{arith}
 use native.Mathlib.Numerals.{add-one}
-use lib.Dec.{leb}
 use lib.ListN.{length, drop, get_or, drop_of_length-le, length-drop}
 use lib.Seq.{drop-cons, drop-drop}
-use borrow.Author.Tests.{ne_eqb, leb-true, leb-false}
 use Rattle.language.specs.Words.{bytes, begins, span, blank, close, gap, after_gaps}
 use Rattle.spans.specs.Spans.{test_of}
-
--- ---- blanks
-
-pub blank_is : (b k : ℕ) → b ≡ k → blank k ≡ true → blank b ≡ true
-blank_is b k e f = ap blank e ∙ f
-
-pub blank_not : (b : ℕ) → (b ≡ 32 → ⊥) → (b ≡ 9 → ⊥) → (b ≡ 13 → ⊥) → (b ≡ 10 → ⊥) → blank b ≡ false
-unfolding blank
-blank_not b p q r s = simp (blank, ne_eqb _ _ p, ne_eqb _ _ q, ne_eqb _ _ r, ne_eqb _ _ s)
-
-pub blank_two : (b : ℕ) → 9 ≤ b → b < 11 → blank b ≡ true
-unfolding blank
-blank_two b h k = go (leb 10 b) refl
-  where
-    go : (t : Bool) → leb 10 b ≡ t → blank b ≡ true
-    go true q = let e : b ≡ 10 = omega (arith, leb-true 10 b q) in rw e
-    go false q = let e : b ≡ 9 = omega (arith, leb-false 10 b q) in rw e
+use Rattle.spans.specs.declared.Class.TheVariants.{Line}
 
 -- ---- the end of a comment
 
@@ -97,7 +79,7 @@ module _ (text : List ℕ) (at : ℕ) where
     gap_blank e = rw (drop-cons text at 0 h) (simp (gap, e))
 
     module _ (e : blank (get_or text at 0) ≡ false) where
-      pub gap_line : begins (47 ∷ 47 ∷ []) (drop at text) ≡ true → gap (drop at text) ≡ length (span (test_of 0) (drop at text))
+      pub gap_line : begins (47 ∷ 47 ∷ []) (drop at text) ≡ true → gap (drop at text) ≡ length (span (test_of Line) (drop at text))
       unfolding gap bytes test_of
       gap_line f = rw (drop-cons text at 0 h) (simp (gap, e, rw (drop-cons text at 0 h) at f))
 
@@ -142,3 +124,11 @@ passing_next text at i n w e h k =
       enough = omega (arith, w.enough);
       goes = w.goes ∙ ap (λ (x : ℕ). after_gaps x (drop i text)) f ∙ after_some (w.fuel - 1) (n - 1) (drop i text) (sym e ∙ m) ∙ ap (after_gaps (w.fuel - 1)) (ap (λ (x : ℕ). drop x (drop i text)) (sym m) ∙ drop-drop n i text);
     }
+
+-- ---- what the functions use
+
+pub ruleset close_laws = (close_over, close_here, raised_zero, raised_some)
+
+pub ruleset gap_laws = (gap_over, gap_blank, gap_line, gap_none, gap_comment, raised_zero, raised_some)
+
+pub ruleset passing_laws = (passing_start, passing_next, passing_done)

@@ -2,19 +2,21 @@
 use mathlib.Core.Path.{◌≡◌, refl, sym, ap, ◌∙◌}
 use mathlib.Core.Bool.{Bool, true, false}
 use mathlib.Core.List.{List, [], ◌∷◌}
-use mathlib.Core.Logic.{◌⊎◌, inr, ⊎_elim}
+use mathlib.Core.Logic.{◌⊎◌, inl, inr, ⊎_elim}
 use Prim.Native.Nat.{ℕ, ◌+◌, ◌-◌, ◌*◌, ◌≤◌, ◌<◌}
 use native.Mathlib.Omega.{arith}
 use native.Mathlib.Numerals.{add-one}
 use lib.Dec.{ltb}
-use lib.ListN.{length, drop, get_or, drop_of_length-le}
+use lib.ListN.{length, take, drop, get_or, drop_of_length-le, length-drop}
 use lib.Seq.{drop-cons}
 use borrow.Author.Tests.{le-leb, lt-leb, lt-ltb, le-ltb, ltb-true, ltb-false}
 use Rattle.language.specs.Words.{span, digit, digit_of, value_in_base, number_next}
 use Rattle.signs.specs.Kinds.{numbers_of}
 use Rattle.plain_numbers.specs.Plain.{capped_of, number_item}
 use Rattle.signs.specs.Tells.{Tells, is_word, is_wrong}
-use Rattle.spans.proofs.Spans.{worth_digit}
+use Rattle.spelling.proofs.Laws.{digit_high}
+use Rattle.spans.proofs.Spans.{worth_digit, span_next, rest_std}
+use Rattle.signs.specs.declared.Item.{Item}
 
 -- equal, or both past the limit
 abbrev pub Alike : ℕ → ℕ → Type 0
@@ -53,21 +55,46 @@ alike_next v b w r k a = go (ltb 4_294_967_295 v) refl
         inr (rw z (omega (arith, h, p)), ⊎_elim (λ x. omega (arith, x, q, h)) (λ x. x.1) a)
     go false e = let z : capped_of v b ≡ v * 10 + digit_of b = capped_grows v b (ltb-false 4_294_967_295 v e) ∙ ap (λ (d : ℕ). v * 10 + d) (sym (worth_digit b k)) in rw z a
 
-pub alike_more : (text : List ℕ) (i v w : ℕ) → i < length text → digit (get_or text i 0) ≡ true → get_or text i 0 ≤ 57 → Alike (value_in_base 10 v (span digit (drop i text))) w → Alike (value_in_base 10 (capped_of v (get_or text i 0)) (span digit (drop (i + 1) text))) w
+-- after n digits of s the value is v
+pub record Counted (s : List ℕ) (n v : ℕ) : Type 0 where
+  pub inside : n ≤ length s
+  pub long : n + length (span digit (drop n s)) ≡ length (span digit s)
+  pub small : v ≤ 42_949_672_959
+  pub alike : Alike (value_in_base 10 v (span digit (drop n s))) (value_in_base 10 0 (span digit s))
+
+pub counted_start : (s : List ℕ) → Counted s 0 0
+counted_start s = record { inside = omega arith; long = omega arith; small = omega arith; alike = inl refl }
+
+pub counted_more : (s : List ℕ) (n v w : ℕ) → n < length s → digit (get_or s n 0) ≡ true → Counted s n v → w ≡ capped_of v (get_or s n 0) → Counted s (n + 1) w
 unfolding span
-alike_more text i v w h e k a =
-    let z : span digit (drop i text) ≡ get_or text i 0 ∷ span digit (drop (i + 1) text) = rw (add-one, drop-cons text i 0 h) (simp (span, e)) in
-    alike_next v (get_or text i 0) w (span digit (drop (i + 1) text)) k (rw z at a)
+counted_more s n v w h e c q =
+    let z : span digit (drop n s) ≡ get_or s n 0 ∷ span digit (drop (n + 1) s) = rw (add-one, drop-cons s n 0 h) (simp (span, e)) in
+    let k = digit_high (get_or s n 0) e in
+    rw q (
+    record {
+      inside = omega arith;
+      long = omega (arith, c.long, ap length z);
+      small = capped_small v (get_or s n 0) k c.small;
+      alike = alike_next v (get_or s n 0) (value_in_base 10 0 (span digit s)) (span digit (drop (n + 1) s)) k (rw z at c.alike);
+    })
 
-pub alike_over : (text : List ℕ) (i v w : ℕ) → length text ≤ i → Alike (value_in_base 10 v (span digit (drop i text))) w → Alike v w
-unfolding span value_in_base
-alike_over text i v w h a = rw (drop_of_length-le text h) at a
+-- no digit is left
+pub record Ended (s : List ℕ) (n v : ℕ) : Type 0 where
+  pub inside : n ≤ length s
+  pub long : n ≡ length (span digit s)
+  pub alike : Alike v (value_in_base 10 0 (span digit s))
 
-pub alike_stop : (text : List ℕ) (i v w : ℕ) → i < length text → digit (get_or text i 0) ≡ false → Alike (value_in_base 10 v (span digit (drop i text))) w → Alike v w
-unfolding span value_in_base
-alike_stop text i v w h e a =
-    let z : span digit (drop i text) ≡ [] = rw (drop-cons text i 0 h) (simp (span, e)) in
-    rw z at a
+ended : (s : List ℕ) (n v : ℕ) → Counted s n v → span digit (drop n s) ≡ [] → Ended s n v
+unfolding value_in_base
+ended s n v c z = record { inside = c.inside; long = omega (arith, c.long, ap length z); alike = rw z at c.alike }
+
+pub counted_stop : (s : List ℕ) (n v : ℕ) → n < length s → digit (get_or s n 0) ≡ false → Counted s n v → Ended s n v
+unfolding span
+counted_stop s n v h e c = ended s n v c (rw (drop-cons s n 0 h) (simp (span, e)))
+
+pub counted_all : (s : List ℕ) (n v : ℕ) → length s ≤ n → Counted s n v → Ended s n v
+unfolding span
+counted_all s n v h c = ended s n v c (rw (drop_of_length-le s h))
 
 pub number_tells : (text : List ℕ) (at n v : ℕ) (run : List ℕ) → 0 < n → at + n ≤ length text → n ≡ length run → Alike v (value_in_base 10 0 run) → Tells text at (number_next run) (number_item n v)
 unfolding number_next number_item numbers_of
@@ -85,3 +112,14 @@ number_tells text at n v run h k e a = go (ltb 4_294_967_295 v) refl
         let h' : 0 < length run = omega arith in
         let k' : at + length run ≤ length text = omega arith in
         rw (e, x) (simp (number_next, number_item, le-leb _ _ o, le-ltb _ _ o) (is_word h' k' (λ p. refl)))
+
+pub ended_tells : (text : List ℕ) (at n v : ℕ) (r : Item) → at < length text → digit (get_or text at 0) ≡ true → Ended (take (length text - at) (drop at text)) n v → r ≡ number_item n v → Tells text at (number_next (span digit (drop at text))) r
+ended_tells text at n v r h e w q =
+    let f = span_next digit text at h e in
+    let z = rest_std text at in
+    let i = w.inside in
+    let l = w.long in
+    rw (q, ← z) (number_tells text at n v (span digit (take (length text - at) (drop at text))) (omega (arith, l, f, ap (λ (x : List ℕ). length (span digit x)) z)) (omega (arith, i, ap length z, length-drop at text)) l w.alike)
+
+-- what `number` uses
+pub ruleset count_laws = (counted_start, counted_stop, counted_all, ended_tells)

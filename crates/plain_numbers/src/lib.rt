@@ -13,41 +13,43 @@ use signs::{Item, kinds};
 const NUMBER: u64 = language::Actor::NUMBER as u64;
 
 // A plain number.
+#[tactic(auto, using(crate::proofs::Amounts::count_laws))]
 pub fn number(text: &[u8], at: usize) -> Item
     requires at_in_bounds { at < length text.now }
     requires at_value { digit (get_or text.now at 0) ≡ true }
     ensures { Tells text.now at (number_next (span_of digit (drop at text.now))) result }
 {
-    let mut v: u64 = 0;
-    let mut i = at;
-    while i < text.len() {
-        let b = text[i];
+    let mut v = 0;
+    for (n, &b) in text[at..].iter().enumerate() {
         if !spelling::is_digit(b) {
-            return number_of(i - at, v);
+            return number_of(n, v);
         }
         v = grown(v, b);
-        i += 1;
     }
-    number_of(i - at, v)
+    number_of(text.len() - at, v)
 }
 
 // The value with one digit more; past the limit it stops growing.
+#[tactic(auto, using(std::proofs::lemmas::Bool::Decides::nat_tests), unfolding(crate::specs::Plain::capped_of, language::specs::Words::digit))]
 fn grown(v: u64, b: u8) -> u64
     requires { (digit b ≡ true) × (v ≤ most_capped) }
     ensures { result ≡ capped_of v b }
 {
-    if NUMBER < v {
-        return v;
+    if v <= NUMBER {
+        v * 10 + u64::from(b - b'0')
+    } else {
+        v
     }
-    v * 10 + (b as u64 - 48)
 }
 
 // A plain number of n bytes, if its value is within the limit.
+#[tactic(auto, using(std::proofs::lemmas::Bool::Decides::nat_tests), unfolding(crate::specs::Plain::number_item))]
 fn number_of(n: usize, v: u64) -> Item
     ensures { result ≡ number_item n v }
 {
-    if NUMBER < v {
-        return Item::Wrong;
+    if v <= NUMBER {
+        Item::Word(kinds::NUMBER, n, v as u32)
+    } else {
+        Item::Wrong
     }
-    Item::Word(kinds::NUMBER, n, v as u32)
 }

@@ -1,4 +1,5 @@
 // The kinds of words, each once: specs/Kinds.antt has their order.
+// Numbers and no enum: `words::words` promises a table of numbers (`numbers_of`), and its readers compare what stands there.
 ghost use Rattle.std.specs.Prelude.{◌≡◌};
 ghost use Rattle.signs.specs.Kinds.{kinds};
 

@@ -5,9 +5,8 @@
 
 pub mod kinds;
 
-ghost use Rattle.std.specs.Prelude.{◌≡◌, ◌<◌, length, drop};
-ghost use Rattle.language.specs.Words.{begins, sign_next};
-ghost use Rattle.signs.specs.Signs.{sign_of, sign_kind, sign_rows};
+ghost use Rattle.std.specs.Prelude.{◌<◌, length, drop};
+ghost use Rattle.language.specs.Words.{sign_next};
 ghost use Rattle.signs.specs.Tells.{Tells};
 
 // What stands first at a place.
@@ -21,62 +20,58 @@ pub enum Item {
     Wrong,
 }
 
-// How many signs there are; those of two bytes come first.
-const ROWS: usize = 40;
-
-const PAIRS: usize = 13;
-
-// The signs as the definition orders them, two bytes for each, the longer ones first.
-const SIGNS: [u8; 80] =
-    *b"=>==!=<<<=>>>=&&||~&~|~^^~(\0)\0{\0}\0[\0]\0,\0;\0:\0?\0.\0=\0<\0>\0!\0~\0&\0|\0^\0+\0-\0*\0/\0%\0@\0$\0#\0";
-
-// What the kind of a single sign is more than its row: `(` is row 13.
-const SINGLE: u32 = kinds::OPEN - 13;
-
-// The same of the signs of row 4: `@` is row 37.
-const LEFT_OUT: u32 = kinds::AT_SIGN - 37;
-
-// Whether the sign of a row stands at a place.
-fn sign_is(row: usize, text: &[u8], at: usize) -> bool
-    requires { (row < sign_rows) × (at < length text.now) }
-    ensures { result ≡ begins (sign_of row) (drop at text.now) }
-{
-    let a = SIGNS[2 * row];
-    let b = SIGNS[2 * row + 1];
-    if b == 0 {
-        return a == text[at];
-    }
-    spans::pair(text, at, a, b)
-}
-
-// The kind of a row's sign: `^~` is `~^`.
-fn sign_kind(row: usize) -> u32
-    requires { row < sign_rows }
-    ensures { result ≡ sign_kind row }
-{
-    match row {
-        0..=11 => row as u32 + kinds::ARROW,
-        12 => kinds::NOT_XOR,
-        13..=36 => row as u32 + SINGLE,
-        _ => row as u32 + LEFT_OUT,
-    }
-}
+// The signs as the definition orders them, the longer ones first, each with its kind: `^~` is `~^`.
+const SIGNS: [(&[u8], u32); 40] = [
+    (b"=>", kinds::ARROW),
+    (b"==", kinds::EQUAL),
+    (b"!=", kinds::UNEQUAL),
+    (b"<<", kinds::LEFT),
+    (b"<=", kinds::AT_MOST),
+    (b">>", kinds::RIGHT),
+    (b">=", kinds::AT_LEAST),
+    (b"&&", kinds::BOTH),
+    (b"||", kinds::EITHER),
+    (b"~&", kinds::NOT_AND),
+    (b"~|", kinds::NOT_OR),
+    (b"~^", kinds::NOT_XOR),
+    (b"^~", kinds::NOT_XOR),
+    (b"(", kinds::OPEN),
+    (b")", kinds::CLOSE),
+    (b"{", kinds::BRACE),
+    (b"}", kinds::UNBRACE),
+    (b"[", kinds::BRACKET),
+    (b"]", kinds::UNBRACKET),
+    (b",", kinds::COMMA),
+    (b";", kinds::SEMICOLON),
+    (b":", kinds::COLON),
+    (b"?", kinds::ASK),
+    (b".", kinds::DOT),
+    (b"=", kinds::EQUALS),
+    (b"<", kinds::LESS),
+    (b">", kinds::GREATER),
+    (b"!", kinds::NOT),
+    (b"~", kinds::INVERT),
+    (b"&", kinds::AMPERSAND),
+    (b"|", kinds::BAR),
+    (b"^", kinds::CARET),
+    (b"+", kinds::PLUS),
+    (b"-", kinds::MINUS),
+    (b"*", kinds::STAR),
+    (b"/", kinds::SLASH),
+    (b"%", kinds::PERCENT),
+    (b"@", kinds::AT_SIGN),
+    (b"$", kinds::DOLLAR),
+    (b"#", kinds::HASH),
+];
 
 // An operator or punctuation, the longest first.
-#[tactic(auto, using(crate::proofs::Signs::pair_tells))]
 pub fn sign(text: &[u8], at: usize) -> Item
     requires { at < length text.now }
     ensures { Tells text.now at (sign_next (drop at text.now)) result }
 {
-    let mut row = 0;
-    while row < ROWS {
-        if sign_is(row, text, at) {
-            if row < PAIRS {
-                return Item::Word(sign_kind(row), 2, 0);
-            }
-            return Item::Word(sign_kind(row), 1, 0);
-        }
-        row += 1;
+    let rest = &text[at..];
+    match SIGNS.iter().find(|(sign, _)| rest.starts_with(sign)) {
+        Some(&(sign, kind)) => Item::Word(kind, sign.len(), 0),
+        None => Item::Wrong,
     }
-    Item::Wrong
 }

@@ -7,58 +7,53 @@ ghost use Rattle.std.specs.Prelude.{◌≡◌, true, [], ◌∷◌, ◌+◌, ◌
 ghost use Rattle.language.specs.Words.{begins, plain_byte, digit_of, digit_in, span as span_of, name_byte};
 ghost use Rattle.spans.specs.Spans.{test_of};
 
-// The classes of bytes that a span runs over; any other number is a base, whose digits it runs over.
-pub const LINE: usize = 0;
-
-pub const NAME: usize = 1;
+// The classes of bytes that a span runs over: what stands in a line, what stands in a name, the digits of a base.
+#[derive(Clone, Copy)]
+pub enum Class {
+    Line,
+    Name,
+    Digits(usize),
+}
 
 // What a letter or digit is worth.
+#[tactic(auto, using(std::proofs::lemmas::Bool::Decides::nat_tests), unfolding(language::specs::Words::plain_byte, language::specs::Words::letter, language::specs::Words::digit, language::specs::Words::digit_of))]
 pub fn digit_of(b: u8) -> usize
     requires { plain_byte b ≡ true }
     ensures { (result ≡ digit_of b) × (result ≤ 255) }
 {
-    if b <= b'9' {
-        return b as usize - 48;
-    }
-    if b <= b'Z' {
-        return b as usize - 55;
-    }
-    b as usize - 87
+    let worth = match b {
+        ..=b'9' => b - b'0',
+        ..=b'Z' => b - b'A' + 10,
+        _ => b - b'a' + 10,
+    };
+    usize::from(worth)
 }
 
+#[tactic(auto, unfolding(language::specs::Words::digit_in))]
 pub fn digit_in(base: usize, b: u8) -> bool
     ensures { result ≡ digit_in base b }
 {
-    if !spelling::is_plain(b) {
-        return false;
-    }
-    digit_of(b) < base
+    spelling::is_plain(b) && digit_of(b) < base
 }
 
 // Whether a byte is of a class.
-fn passes(class: usize, b: u8) -> bool
+#[tactic(auto, unfolding(crate::specs::Spans::test_of))]
+fn passes(class: Class, b: u8) -> bool
     ensures { result ≡ test_of class b }
 {
     match class {
-        0 => b != b'\n',
-        1 => spelling::is_name_byte(b),
-        _ => digit_in(class, b),
+        Class::Line => b != b'\n',
+        Class::Name => spelling::is_name_byte(b),
+        Class::Digits(base) => digit_in(base, b),
     }
 }
 
 // How many bytes of a class stand from a place on.
-pub fn span(text: &[u8], at: usize, class: usize) -> usize
+pub fn span(text: &[u8], at: usize, class: Class) -> usize
     requires { at ≤ length text.now }
     ensures { (at + result ≤ length text.now) × (result ≡ length (span_of (test_of class) (drop at text.now))) }
 {
-    let mut i = at;
-    while i < text.len() {
-        if !passes(class, text[i]) {
-            return i - at;
-        }
-        i += 1;
-    }
-    i - at
+    text[at..].iter().take_while(|&&b| passes(class, b)).count()
 }
 
 // Whether two bytes stand at a place.
@@ -66,35 +61,25 @@ pub fn pair(text: &[u8], at: usize, a: u8, b: u8) -> bool
     requires { at ≤ length text.now }
     ensures { result ≡ begins (a ∷ b ∷ []) (drop at text.now) }
 {
-    if text.len() - at < 2 {
-        return false;
-    }
-    if text[at] != a {
-        return false;
-    }
-    b == text[at + 1]
+    text[at..].starts_with(&[a, b])
 }
 
 // At most so many bytes from a place on.
 pub fn part(text: &[u8], at: usize, long: usize) -> &[u8]
     ensures { result.now ≡ take long (drop at text.now) }
 {
-    if text.len() <= at {
-        return &text[0..0];
-    }
-    if text.len() - at <= long {
-        return &text[at..];
-    }
-    let end = at + long;
-    &text[at..end]
+    let rest = &text[at.min(text.len())..];
+    &rest[..long.min(rest.len())]
 }
 
 // How many name bytes stand from a place on.
+#[tactic(auto, using(crate::proofs::Spans::span_over), unfolding(crate::specs::Spans::test_of))]
 pub fn run(text: &[u8], at: usize) -> usize
     ensures { result ≡ length (span_of name_byte (drop at text.now)) }
 {
-    if text.len() <= at {
-        return 0;
+    if at < text.len() {
+        span(text, at, Class::Name)
+    } else {
+        0
     }
-    span(text, at, NAME)
 }

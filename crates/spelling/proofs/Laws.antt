@@ -1,20 +1,26 @@
 -- Laws of bytes, runs and fixed words, on numbers and lists alone. Assumes nothing.
 use mathlib.Core.Path.{◌≡◌, refl, sym, ap, ◌∙◌}
-use mathlib.Core.Bool.{Bool, true, false, ◌&&◌, ◌||◌}
-use mathlib.Core.List.{List, [], ◌∷◌, ◌++◌}
+use mathlib.Core.Bool.{Bool, true, false, not, cond, ◌&&◌, ◌||◌}
+use mathlib.Core.List.{List, [], ◌∷◌, ◌++◌, map}
 use mathlib.Core.Logic.{◌⊎◌, inl, inr}
 use Prim.Native.String.{String}
-use Prim.Native.Nat.{ℕ, zero, suc, ◌+◌, ◌*◌, ◌≤◌, ◌<◌}
+use Prim.Native.Nat.{ℕ, zero, suc, ◌+◌, ◌≤◌, ◌<◌}
 use native.Mathlib.Omega.{arith}
-use native.Mathlib.Numerals.{add-one}
 use native.Mathlib.Nat.{not-suc-le-zero, le_of_suc-le-suc}
 use lib.Dec.{leb, ltb, eqb, leb-suc-suc}
-use lib.ListN.{length, take, drop, get_or, drop_of_length-le, replicate}
-use lib.Seq.{drop-cons}
-use borrow.Author.Tests.{leb-true, leb-false, eqb-true, le-leb, lt-leb, lt-ltb, le-ltb, eq-eqb, ne_eqb}
+use lib.ListN.{length, get_or}
+use Rattle.std.proofs.lemmas.Bool.Decides.{nat_tests}
+use borrow.Author.Tests.{ltb-false, leb-true, leb-false, eqb-true, le-leb, lt-leb, lt-ltb, le-ltb}
+use denote.Bor.{Bor}
+use lib.Pointwise.{pointwise}
+use Rattle.std.specs.Char.{is_ascii_alphanumeric}
+use Rattle.std.specs.List.{list_any, position, position_or_len}
+use Rattle.std.proofs.lemmas.List.Sums.{prefix_len-le-length}
+use Rattle.std.specs.Option.{unwrap_or}
+use Rattle.std.specs.Prelude.{Option, Some, None}
 use Rattle.language.specs.Text.{same, index, among}
 use Rattle.language.specs.Words.{bytes, digit, letter, plain_byte, some_of, good_name, spellings, keywords}
-use Rattle.spelling.specs.Fixed.{fixed_names, row_of}
+use Rattle.spelling.specs.Fixed.{fixed_names}
 
 pub never : {A : Type 0} → true ≡ false → A
 never e = absurd (let z : ◌≡◌ {A = ℕ} 0 1 = cc in omega arith)
@@ -54,65 +60,45 @@ pub digit_high : (b : ℕ) → digit b ≡ true → b ≤ 57
 unfolding digit
 digit_high b e = leb-true b 57 (both_right (leb 48 b) (leb b 57) e)
 
-pub is_digit : (b : ℕ) → 48 ≤ b → b ≤ 57 → plain_byte b ≡ true
-unfolding plain_byte digit
-is_digit b h k = simp (plain_byte, digit, within 48 57 b h k, or_true)
-
-pub is_upper : (b : ℕ) → 65 ≤ b → b ≤ 90 → plain_byte b ≡ true
-unfolding plain_byte letter
-is_upper b h k = simp (plain_byte, letter, within 65 90 b h k)
-
-pub is_lower : (b : ℕ) → 97 ≤ b → b ≤ 122 → plain_byte b ≡ true
-unfolding plain_byte letter
-is_lower b h k = simp (plain_byte, letter, within 97 122 b h k, or_true)
-
 pub is_neither : (b : ℕ) → (leb 48 b && leb b 57) ≡ false → (leb 65 b && leb b 90) ≡ false → (leb 97 b && leb b 122) ≡ false → plain_byte b ≡ false
 unfolding plain_byte digit letter
 is_neither b d u l = simp (plain_byte, digit, letter, d, u, l)
 
--- ---- two runs
+-- ---- what std's tests tell
 
-pub same_longer : (s t : List ℕ) → (length s ≡ length t → ⊥) → same s t ≡ false
+digits_last : (d u l : Bool) → ((d || u) || l) ≡ ((u || l) || d)
+digits_last true true l = refl
+digits_last true false l = sym (or_true l)
+digits_last false true l = refl
+digits_last false false true = refl
+digits_last false false false = refl
+
+pub plain_std : (b : ℕ) → is_ascii_alphanumeric b ≡ plain_byte b
+unfolding plain_byte letter digit
+plain_std b = digits_last (leb 48 b && leb b 57) (leb 65 b && leb b 90) (leb 97 b && leb b 122)
+
+pub same_std : (s t : List ℕ) → pointwise eqb s t ≡ same s t
 unfolding same
-same_longer [] [] h = absurd (h refl)
-same_longer [] (b ∷ t) h = refl
-same_longer (a ∷ s) [] h = refl
-same_longer (a ∷ s) (b ∷ t) h = rw (same_longer s t (λ e. h (ap suc e))) (and_false (eqb a b))
+same_std [] [] = refl
+same_std [] (b ∷ t) = refl
+same_std (a ∷ s) [] = refl
+same_std (a ∷ s) (b ∷ t) = ap (λ (x : Bool). eqb a b && x) (same_std s t)
 
-module _ (s t : List ℕ) (i : ℕ) (h : i < length s) (k : i < length t) where
-  pub same_here : (get_or s i 0 ≡ get_or t i 0 → ⊥) → same (drop i s) (drop i t) ≡ false
-  unfolding same
-  same_here e = rw (drop-cons s i 0 h, drop-cons t i 0 k) (simp (same, ne_eqb _ _ e))
+pub some_std : (p : ℕ → Bool) (s : List ℕ) → list_any p s ≡ some_of p s
+unfolding some_of
+some_std p [] = refl
+some_std p (b ∷ s) = ap (λ (x : Bool). p b || x) (some_std p s)
 
-  pub same_next : get_or s i 0 ≡ get_or t i 0 → same (drop i s) (drop i t) ≡ same (drop (i + 1) s) (drop (i + 1) t)
-  unfolding same
-  same_next e = rw (add-one, drop-cons s i 0 h, drop-cons t i 0 k) (simp (same, eq-eqb _ _ e))
-
-pub same_over : (s t : List ℕ) (i : ℕ) → length s ≤ i → length t ≤ i → same (drop i s) (drop i t) ≡ true
-unfolding same
-same_over s t i h k = rw (drop_of_length-le s h, drop_of_length-le t k)
-
--- ---- a byte of a run that passes a test
-
-module _ (p : ℕ → Bool) (s : List ℕ) (i : ℕ) (h : i < length s) where
-  pub some_here : p (get_or s i 0) ≡ true → some_of p (drop i s) ≡ true
-  unfolding some_of
-  some_here e = rw (drop-cons s i 0 h) (simp (some_of, e))
-
-  pub some_next : p (get_or s i 0) ≡ false → some_of p (drop i s) ≡ some_of p (drop (i + 1) s)
-  unfolding some_of
-  some_next e = rw (add-one, drop-cons s i 0 h) (simp (some_of, e))
+pub index_std : (l : List (Bor (List ℕ))) (s : List ℕ) → position_or_len (λ w. same w.now s) l ≡ index (map (λ w. w.now) l) s
+unfolding index
+index_std [] s = refl
+index_std (n ∷ l) s =
+    elim (same n.now s) as (λ (t : Bool). cond (not t) (1 + position_or_len (λ w. same w.now s) l) 0 ≡ elim t as (λ (x : Bool). ℕ) [ true ↦ 0 | false ↦ suc (index (map (λ w. w.now) l) s) ]) [
+      | true ↦ refl
+      | false ↦ (let h = index_std l s in omega (arith, h))
+    ]
 
 -- ---- the fixed words
-
-module _ (l : List (List ℕ)) (s : List ℕ) (i : ℕ) (h : i < length l) where
-  pub index_here : same (get_or l i []) s ≡ true → index (drop i l) s ≡ 0
-  unfolding index
-  index_here e = rw (drop-cons l i [] h) (simp (index, e))
-
-  pub index_next : same (get_or l i []) s ≡ false → index (drop i l) s ≡ suc (index (drop (i + 1) l) s)
-  unfolding index
-  index_next e = rw (add-one, drop-cons l i [] h) (simp (index, e))
 
 -- a word is one of the first where its index is below their number
 pub among_index : (a b : List (List ℕ)) (s : List ℕ) → among a s ≡ ltb (index (a ++ b) s) (length a)
@@ -131,25 +117,32 @@ pub keyword_index : (s : List ℕ) → among (spellings keywords) s ≡ ltb (ind
 unfolding spellings keywords fixed_names
 keyword_index s = among_index (spellings keywords) _ s
 
--- a run is good where it is short enough, no keyword, and has a letter or a digit
-module _ (s : List ℕ) where
-  pub good_long : 31 < length s → good_name s ≡ false
-  unfolding good_name
-  good_long h = simp (good_name, lt-leb _ _ h, and_false)
+pub rows_many : length (spellings fixed_names) ≡ 21
+unfolding spellings fixed_names keywords bytes
+rows_many = refl
 
-  pub good_keyword : index (spellings fixed_names) s < 18 → good_name s ≡ false
-  unfolding good_name
-  good_keyword h = simp (good_name, keyword_index, lt-ltb _ _ h, and_false)
+or_all : (k n : ℕ) → k ≤ n → unwrap_or (cond (ltb k n) (Some k) None) n ≡ k
+or_all k n h = go (ltb k n) refl
+  where
+    go : (t : Bool) → ltb k n ≡ t → unwrap_or (cond t (Some k) None) n ≡ k
+    go true e = refl
+    go false e = omega (arith, ltb-false k n e)
 
-  pub good_some : length s ≤ 31 → 18 ≤ index (spellings fixed_names) s → good_name s ≡ some_of plain_byte s
-  unfolding good_name
-  good_some h k = simp (good_name, keyword_index, le-ltb _ _ k, le-leb _ _ h, and_true)
-    where
-      and_true : (t : Bool) → (t && true) ≡ t
-      and_true true = refl
-      and_true false = refl
+-- the place that `position` finds in a list of the fixed words, or their number, is the run's index
+pub spelled_std : (l : List (Bor (List ℕ))) (s : List ℕ) (p : Option ℕ) (n : ℕ) → map (λ w. w.now) l ≡ spellings fixed_names → length l ≡ 21 → p ≡ position (λ w. same w.now s) l → n ≡ unwrap_or p 21 → n ≡ index (spellings fixed_names) s
+spelled_std l s p n e m h k =
+    let q : position_or_len (λ w. same w.now s) l ≤ 21 = omega (arith, prefix_len-le-length (λ w. not (same w.now s)) l) in
+    k ∙ ap (λ (x : Option ℕ). unwrap_or x 21) (h ∙ ap (λ (x : ℕ). cond (ltb (position_or_len (λ w. same w.now s) l) x) (Some (position_or_len (λ w. same w.now s) l)) None) m) ∙ or_all (position_or_len (λ w. same w.now s) l) 21 q ∙ index_std l s ∙ ap (λ (x : List (List ℕ)). index x s) e
 
--- ---- the table of the rows
+not_below : (n k : ℕ) → not (ltb k n) ≡ leb n k
+not_below n k = grind (arith, nat_tests)
+
+-- a run is good where it has a letter or a digit, is short enough, and is no keyword
+pub good_name_is : (s : List ℕ) → good_name s ≡ (some_of plain_byte s && leb (length s) 31 && leb 18 (index (spellings fixed_names) s))
+unfolding good_name
+good_name_is s = simp (good_name, keyword_index, not_below)
+
+-- ---- a test at each number below another
 
 order : (n k : ℕ) → (n ≤ k) ⊎ (k < n)
 order n k = go (leb n k) refl
@@ -171,39 +164,6 @@ below_all (suc n) f e k h =
       | inl l ↦ (let q : k ≡ n = omega arith in ap f q ∙ both_left (f n) (all_below n f) e)
       | inr l ↦ below_all n f (both_right (f n) (all_below n f) e) k l
     ]
-
-pub rows_many : length (spellings fixed_names) ≡ 21
-unfolding spellings fixed_names keywords bytes
-rows_many = refl
-
-unfoldable short : ℕ → Bool
-short row = leb (length (row_of row)) 11
-
-pub row_short : (row : ℕ) → row < 21 → length (row_of row) ≤ 11
-unfolding short all_below row_of fixed_names spellings keywords bytes
-row_short row h = leb-true _ _ (below_all 21 short refl row h)
-
--- the rows as one list: each word's length, the word, and zeros up to twelve
-unfoldable pub rows_of : List (List ℕ) → List ℕ
-rows_of [] = []
-rows_of (w ∷ ws) = take 12 (length w ∷ (w ++ replicate 12 0)) ++ rows_of ws
-
-unfoldable cell_right : ℕ → ℕ → Bool
-cell_right row i = eqb (get_or (rows_of (spellings fixed_names)) (12 * row + i) 0) (get_or (length (row_of row) ∷ row_of row) i 0)
-
-unfoldable row_right : ℕ → Bool
-row_right row = all_below 12 (cell_right row)
-
-pub cell_is : (row i : ℕ) → row < 21 → i < 12 → get_or (rows_of (spellings fixed_names)) (12 * row + i) 0 ≡ get_or (length (row_of row) ∷ row_of row) i 0
-unfolding row_right cell_right all_below rows_of row_of fixed_names spellings keywords bytes
-cell_is row i h k = eqb-true _ _ (below_all 12 (cell_right row) (below_all 21 row_right refl row h) i k)
-
-pub next_of_law : (a : ℕ) (l : List ℕ) (i : ℕ) → get_or (a ∷ l) (i + 1) 0 ≡ get_or l i 0
-next_of_law a l i = rw add-one
-
-pub index_over : (l : List (List ℕ)) (s : List ℕ) (i : ℕ) → length l ≤ i → index (drop i l) s ≡ 0
-unfolding index
-index_over l s i h = rw (drop_of_length-le l h)
 
 -- ---- runs that are the same, and a list's spelling
 

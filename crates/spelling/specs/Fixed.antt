@@ -7,12 +7,9 @@ use Rattle.language.specs.Words.{keywords, spellings}
 unfoldable pub fixed_names : List String
 fixed_names = keywords ++ ("_" ∷ "foreach" ∷ "instruction" ∷ [])
 
--- how many there are, and how many bytes the row of one has in the code's table
+-- how many there are
 abbrev pub fixed_rows : ℕ
 fixed_rows = 21
-
-abbrev pub row_bytes : ℕ
-row_bytes = 12
 
 unfoldable pub row_of : ℕ → List ℕ
 row_of i = get_or (spellings fixed_names) i []

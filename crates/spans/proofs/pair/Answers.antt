@@ -1,14 +1,8 @@
 -- `spans::pair` meets its contract. Assumes nothing.
-use native.Mathlib.Omega.{arith}
-use mathlib.Core.Path.{sym}
-use Rattle.spans.proofs.Spans.{pair_few, pair_first, pair_second}
+use mathlib.Core.Path.{◌∙◌}
+use mathlib.Core.List.{[], ◌∷◌}
+use Rattle.spans.proofs.Spans.{begins_std}
 use Rattle.spans.proofs.pair.Goals as goal
 
-pub returns-then-text-at-lt2 : goal.returns-then-text-at-lt2
-returns-then-text-at-lt2 c = sym (pair_few c.args.text.now c.args.at _ _ (omega arith))
-
-pub returns-then-text-at : goal.returns-then-text-at
-returns-then-text-at c = sym (pair_first _ c.args.at _ _ (omega arith) c.if-text-at.true)
-
 pub returns : goal.returns
-returns c = sym (pair_second _ c.args.at _ _ (omega arith) c.if-text-at.false)
+returns c = c.starts_with.ensures.value ∙ begins_std (c.args.a ∷ c.args.b ∷ []) c.args.text.now c.args.at

@@ -1,21 +1,22 @@
--- `spelling::spelled` meets its contract: the rows passed and the index in what is left come to the index in all. Assumes nothing.
-use native.Mathlib.Omega.{arith}
-use mathlib.Core.Path.{sym, ◌∙◌}
-use Rattle.language.specs.Words.{spellings}
-use Rattle.spelling.specs.Fixed.{fixed_names, row_of}
-use Rattle.spelling.proofs.Laws.{index_over, index_here, index_next, rows_many}
+-- `spelling::spelled` meets its contract. Assumes nothing.
+use mathlib.Core.Path.{refl, ap}
+use mathlib.Core.List.{List, map}
+use Prim.Native.Nat.{ℕ}
+use denote.Bor.{Bor}
+use lib.ListN.{length}
+use Rattle.std.proofs.Common.{rules, tests}
+use Rattle.std.proofs.lemmas.Iterator.{YieldsList-from_slice}
+use Rattle.std.proofs.lemmas.Iterator.Search.{position_from_yields_List}
+use Rattle.language.specs.Text.{same}
+use Rattle.language.specs.Words.{spellings, keywords, bytes}
+use Rattle.spelling.specs.Fixed.{fixed_names}
+use Rattle.spelling.proofs.Laws.{spelled_std}
 use Rattle.spelling.proofs.spelled.Goals as goal
 
-pub loop-i-init : goal.loop-i-init
-loop-i-init c = (omega arith, omega arith)
-
-pub returns-then-row_is : goal.returns-then-row_is
-unfolding row_of
-returns-then-row_is c = let e = index_here (spellings fixed_names) c.args.run.now c.loop-i.i (omega (arith, rows_many)) (sym c.row_is.ensures ∙ c.if-row_is.true) in omega (arith, e, c.loop-i.invariant.1)
-
-pub loop-i-preserved : goal.loop-i-preserved
-unfolding row_of
-loop-i-preserved c = let e = index_next (spellings fixed_names) c.args.run.now c.loop-i.i (omega (arith, rows_many)) (sym c.row_is.ensures ∙ c.if-row_is.false) in (omega arith, omega (arith, e, c.loop-i.invariant.1))
-
 pub returns : goal.returns
-returns c = let e = index_over (spellings fixed_names) c.args.run.now c.loop-i.i (omega (arith, rows_many)) in omega (arith, e, c.loop-i.invariant.1)
+unfolding fixed_names spellings keywords bytes
+returns c =
+    let run = c.args.run.now in
+    let words = c.iter.result.rest.now in
+    let found = position_from_yields_List (λ w. same w.now run) _ _ c.position.result c.position.ensures.ran (YieldsList-from_slice words refl) (λ x b q k. search (rules, tests)) in
+    spelled_std words run c.position.result _ (ap (map (λ (w : Bor (List ℕ)). w.now)) c.iter.ensures.rest) (ap length c.iter.ensures.rest) found c.unwrap_or.ensures
