@@ -9,7 +9,8 @@ use lib.Seq.{sets}
 use Rattle.language.specs.Words.{Word}
 use Rattle.language.specs.Reader.{Res, bind}
 use Rattle.readers.specs.Marks.{count}
-use Rattle.std.specs.Prelude.{Ok, Err}
+use Rattle.std.specs.Prelude.{Result, Ok, Err, IsErrAnd}
+use Rattle.std.proofs.lemmas.Result.{err_from_is_err_and}
 use Rattle.readers.specs.Meets.{Out, On, Went, Stopped, MovedTo, Moved, Agrees, read, fault}
 use Rattle.readers.specs.declared.Misfit.{Misfit}
 
@@ -65,3 +66,7 @@ pub bind_err : {A B : Type 0} {fl : A → List ℕ} {fl' : B → List ℕ} {ws :
     → Agrees fl ws n t u (Err e) t₁ → Agrees fl' ws b s (bind u v) (Err e) t'
 unfolding bind
 bind_err u v fault = fault
+
+-- what a `?` hands on
+pub same_err : {A : Type 0} {r : Result A Misfit} {e : Misfit} → IsErrAnd r (λ i. i ≡ e) → r ≡ Err e
+same_err {r = r} h = let p = err_from_is_err_and r h in p.1 ∙ ap (λ (e : Misfit). Err e) p.2

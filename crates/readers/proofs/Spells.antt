@@ -301,7 +301,14 @@ found_at {w} {at} {kw} h f = put f (kind_inside w at kw h f.kind)
     put : {x : ℕ} → Finds w at kw x → at < count w → x ≤ count w
     put f i = omega arith
 
+module _ {text : List ℕ} {ms : List (List ℕ)} {w : List ℕ} {ws : List Word} (M : Marked text ms w ws) where
+  pub word_found : (x k : ℕ) {y : ℕ} → 1 ≤ k → Finds w x k y → drop x ws ≡ word_of text k (place_at w x) (long_at w x) (value_at w x) ∷ drop y ws
+  word_found x k h f = word M x k h f.kind ∙ ap (λ (y : ℕ). word_of text k (place_at w x) (long_at w x) (value_at w x) ∷ drop y ws) (sym f.next)
+
 module _ {text : List ℕ} {ms : List (List ℕ)} {w : List ℕ} {ws : List Word} (M : Marked text ms w ws) {s : String} {j : ℕ} (sp : Spells s j) where
+  pub on_found : {S : Type 0} {x y : ℕ} (g : ℕ → List Word → Res S) (d : List Word → Res S) → Finds w x j y → on (is s) (drop x ws) g d ≡ g (place_at w x) (drop y ws)
+  on_found {x = x} g d f = on_is M s j x sp g d f.kind ∙ ap (λ (y : ℕ). g (place_at w x) (drop y ws)) (sym f.next)
+
   pub expect_found : {S : Type 0} {x y : ℕ} (g : ℕ → List Word → Res S) → Finds w x j y → expect s (drop x ws) g ≡ g (place_at w x) (drop y ws)
   expect_found {x = x} {y = y} g f = expect_at M s j x sp y g f.kind f.next
 
