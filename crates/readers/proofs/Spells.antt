@@ -17,7 +17,7 @@ use Rattle.signs.specs.Kinds.{spelled_words}
 use Rattle.words.specs.Table.{word_of, word_at}
 use Rattle.readers.specs.Marks.{count, kind_at, place_at, long_at, value_at, name_at, spelled_at, Marked, fixed_of, the_type, is_type, the_p, is_p}
 use Rattle.std.specs.Prelude.{Ok, Err}
-use Rattle.readers.specs.Meets.{Out, On, Went, Moved, Agrees, fault, Finds, Misses}
+use Rattle.readers.specs.Meets.{Out, On, Went, Moved, Agrees, fault, Finds, Lacks}
 use Rattle.readers.proofs.Laws.{bind_ok, bind_err}
 use Rattle.readers.specs.declared.Misfit.{Misfit}
 
@@ -312,7 +312,7 @@ module _ {text : List ℕ} {ms : List (List ℕ)} {w : List ℕ} {ws : List Word
   pub expect_found : {S : Type 0} {x y : ℕ} (g : ℕ → List Word → Res S) → Finds w x j y → expect s (drop x ws) g ≡ g (place_at w x) (drop y ws)
   expect_found {x = x} {y = y} g f = expect_at M s j x sp y g f.kind f.next
 
-  pub expect_missed : {B : Type 0} {fl : B → List ℕ} {x n : ℕ} {e : Misfit} {t t' : List ℕ} (g : ℕ → List Word → Res B) → Misses w x j e.at → Agrees fl ws n t (expect s (drop x ws) g) (Err e) t'
+  pub expect_missed : {B : Type 0} {fl : B → List ℕ} {x n : ℕ} {e : Misfit} {t t' : List ℕ} (g : ℕ → List Word → Res B) → Lacks w x j e.at → Agrees fl ws n t (expect s (drop x ws) g) (Err e) t'
   expect_missed {x = x} g f = rw (expect_bad M s j x sp g f.kind, ← f.stays) fault
 
   -- what a reader reads, and then the word
@@ -321,7 +321,7 @@ module _ {text : List ℕ} {ms : List (List ℕ)} {w : List ℕ} {ws : List Word
     unfolding until
     until_ok a f k = bind_ok u _ a (λ v on. rw (expect_found (λ p y. g v p y) f) (k v _ on))
 
-    pub until_missed : {x m : ℕ} {e : Misfit} → Agrees fl ws n t u (Ok (x, m)) t₁ → Misses w x j e.at → Agrees fl' ws b s₀ (until u s g) (Err e) t'
+    pub until_missed : {x m : ℕ} {e : Misfit} → Agrees fl ws n t u (Ok (x, m)) t₁ → Lacks w x j e.at → Agrees fl' ws b s₀ (until u s g) (Err e) t'
     unfolding until
     until_missed a f = bind_ok u _ a (λ v on. expect_missed (λ p y. g v p y) f)
 

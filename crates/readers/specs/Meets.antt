@@ -83,13 +83,13 @@ pub record Finds (w : List ℕ) (at kw x : ℕ) : Type 0 where
   pub next : x ≡ at + 1
 
 -- a word of another kind, or none
-pub record Misses (w : List ℕ) (at kw i : ℕ) : Type 0 where
+pub record Lacks (w : List ℕ) (at kw i : ℕ) : Type 0 where
   pub kind : kind_at w at ≡ kw → ⊥
   pub stays : i ≡ at
 
 abbrev pub Expects : List ℕ → ℕ → ℕ → Result ℕ Misfit → Type 0
 Expects w at kw (Ok x) = Finds w at kw x
-Expects w at kw (Err e) = Misses w at kw e.at
+Expects w at kw (Err e) = Lacks w at kw e.at
 
 -- a reader p of lists, given enough fuel: more than its measure, 8 for each word that is left and its rank
 pub record Met {A : Type 0} (fl : A → List ℕ) (rank : ℕ) (p : List ℕ → List (List ℕ) → List Word → ℕ → Res A) (w : List ℕ) (at n : ℕ) (t : List ℕ) (r : Out) (t' : List ℕ) : Type 0 where

@@ -13,7 +13,7 @@ use Rattle.signs.specs.Kinds.{spelled_words}
 use Rattle.words.specs.Table.{word_of}
 use Rattle.readers.specs.Marks.{kind_at, place_at, long_at, numeral_at, name_at, Marked}
 use Rattle.type_reader.specs.Types.{positions_p, Valued}
-use Rattle.readers.specs.Meets.{Finds, Misses}
+use Rattle.readers.specs.Meets.{Finds, Lacks}
 use Rattle.readers.proofs.Spells.{word, word_found, on_found, on_miss, on_is, off_is, expect_at, expect_bad, name_miss, digits_miss}
 use Rattle.readers.proofs.Fixed.{s_value, s_brace, s_bracket, s_unbracket, s_colon}
 
@@ -27,7 +27,7 @@ module _ {text : List ℕ} {ms : List (List ℕ)} {w : List ℕ} {ws : List Word
     unfolding amount_p on is_digits word_of
     amount_given e = ap (amount_p b) (word M x 3 (omega arith) e)
 
-    pub amount_none : {i : ℕ} → (kind_at w x ≡ 3 → ⊥) → Misses w x 23 i → amount_p b (drop x ws) ≡ bad (drop i ws)
+    pub amount_none : {i : ℕ} → (kind_at w x ≡ 3 → ⊥) → Lacks w x 23 i → amount_p b (drop x ws) ≡ bad (drop i ws)
     unfolding amount_p
     amount_none h g = on_miss M is_digits _ _ x (λ p l v. digits_miss text p l v _ h) ∙ expect_bad M "'d" 23 x s_value _ g.kind ∙ ap (λ (y : ℕ). bad (drop y ws)) (sym g.stays)
 
@@ -39,7 +39,7 @@ module _ {text : List ℕ} {ms : List (List ℕ)} {w : List ℕ} {ws : List Word
     unfolding on is_name word_of
     amount_value {y = y} f g = value_name f ∙ ap (λ (l : List Word). on is_name l (λ n y. ok (sized b (value n)) y) (λ r. bad r)) (word_found M y 2 (omega arith) g)
 
-    pub amount_bad : {y i : ℕ} → Finds w x 23 y → Misses w y 2 i → amount_p b (drop x ws) ≡ bad (drop i ws)
+    pub amount_bad : {y i : ℕ} → Finds w x 23 y → Lacks w y 2 i → amount_p b (drop x ws) ≡ bad (drop i ws)
     amount_bad {y = y} f g = value_name f ∙ on_miss M is_name _ _ y (λ p l v. name_miss text p l v _ g.kind) ∙ ap (λ (y : ℕ). bad (drop y ws)) (sym g.stays)
 
   module _ (f x : ℕ) (e₀ : Expr) where
@@ -63,7 +63,7 @@ module _ {text : List ℕ} {ms : List (List ℕ)} {w : List ℕ} {ws : List Word
           other : {k : ℕ} → k ≡ 44 → k ≡ 41 → ⊥
           other p q = omega arith
 
-      pub positions_none : {j : ℕ} → Misses w x 44 j → (kind_at w x ≡ 41 → ⊥) → positions_p f p e₀ i (drop x ws) ≡ bad (drop j ws)
+      pub positions_none : {j : ℕ} → Lacks w x 44 j → (kind_at w x ≡ 41 → ⊥) → positions_p f p e₀ i (drop x ws) ≡ bad (drop j ws)
       unfolding positions_p
       positions_none h g = off_is M ":" 44 x s_colon _ _ h.kind ∙ expect_bad M "]" 41 x s_unbracket _ g ∙ ap (λ (y : ℕ). bad (drop y ws)) (sym h.stays)
 
