@@ -3,8 +3,7 @@ use Rattle.std.specs.Prelude.{◌≡◌, Bool, true, List, ℕ, ◌+◌, ◌*◌
 use Rattle.language.specs.Parser.{expr_p, cond_l, bin_p, bin_l, part_l, arms_p}
 use Rattle.tape.specs.Tape.{flat}
 use Rattle.readers.specs.Marks.{count, kind_at, is_mark}
-use Rattle.readers.specs.declared.Out.{Out}
-use Rattle.readers.specs.Meets.{Met, MetOn}
+use Rattle.readers.specs.Meets.{Out, Met, MetOn}
 
 -- room, at an operator that stands before its operand
 pub record StartsMark (w : List ℕ) (at n k : ℕ) : Type 0 where

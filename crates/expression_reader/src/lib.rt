@@ -11,8 +11,8 @@ ghost use Rattle.expression_reader.specs.Expressions.{StartsMark, IsExpr, IsChoi
 ghost use Rattle.type_reader.specs.Types.{IsOperand};
 
 use readers::{
-    LOOSEST, Out, Table, Tape, arm_ends, binary_item, closed, emit, kind, level, memory, prefix,
-    put, unary_item, value,
+    LOOSEST, Misfit, Out, Table, Tape, arm_ends, binary_item, emit, expect, kind, level, memory,
+    prefix, put, unary_item, value,
 };
 use signs::kinds;
 use tape::{
@@ -25,14 +25,11 @@ pub fn expr(words: &Table, tape: &mut Tape, at: usize, n: usize, arm: bool) -> O
     requires { Room words.now at n }
     ensures { IsExpr words.now at n tape.old result tape.new arm }
 {
-    let k = kind(words, at);
-    if k == kinds::IF {
+    if kind(words, at) == kinds::IF {
         return either(words, tape, at, n, arm);
     }
-    match binary(words, tape, at, n, LOOSEST, arm) {
-        Out::At(x, m) => choices(words, tape, x, m, arm),
-        Out::Bad(i) => Out::Bad(i),
-    }
+    let (x, m) = binary(words, tape, at, n, LOOSEST, arm)?;
+    choices(words, tape, x, m, arm)
 }
 
 // `if`, `then`, `else`.
@@ -41,23 +38,12 @@ fn either(words: &Table, tape: &mut Tape, at: usize, n: usize, arm: bool) -> Out
     requires { Starts words.now at n if_kind }
     ensures { IsExpr words.now at n tape.old result tape.new arm }
 {
-    let a = expr(words, tape, at + 1, n, false);
-    match closed(words, a, kinds::THEN) {
-        Out::At(x, m) => {
-            let b = expr(words, tape, x, m, false);
-            match closed(words, b, kinds::ELSE) {
-                Out::At(y, o) => match expr(words, tape, y, o, arm) {
-                    Out::At(z, q) => {
-                        let p = put(words, tape, at, q, EITHER, 0);
-                        Out::At(z, p)
-                    }
-                    Out::Bad(i) => Out::Bad(i),
-                },
-                Out::Bad(i) => Out::Bad(i),
-            }
-        }
-        Out::Bad(i) => Out::Bad(i),
-    }
+    let (x, m) = expr(words, tape, at + 1, n, false)?;
+    let then = expect(words, x, kinds::THEN)?;
+    let (y, o) = expr(words, tape, then, m, false)?;
+    let other = expect(words, y, kinds::ELSE)?;
+    let (z, q) = expr(words, tape, other, o, arm)?;
+    Ok((z, put(words, tape, at, q, EITHER, 0)))
 }
 
 // What follows an expression that is on the tape: `?` and `:`, grouped to the left.
@@ -66,25 +52,14 @@ fn choices(words: &Table, tape: &mut Tape, at: usize, n: usize, arm: bool) -> Ou
     requires { Room words.now at n }
     ensures { IsChoices words.now at n tape.old result tape.new arm }
 {
-    let mut x = at;
-    let mut m = n;
-    loop {
-        let k = kind(words, x);
-        if k != kinds::ASK {
-            return Out::At(x, m);
-        }
-        let a = expr(words, tape, x + 1, m, false);
-        match closed(words, a, kinds::COLON) {
-            Out::At(y, o) => match binary(words, tape, y, o, LOOSEST, arm) {
-                Out::At(z, q) => {
-                    x = z;
-                    m = emit(tape, q, CHOICE, 0);
-                }
-                Out::Bad(i) => return Out::Bad(i),
-            },
-            Out::Bad(i) => return Out::Bad(i),
-        }
+    let (mut x, mut m) = (at, n);
+    while kind(words, x) == kinds::ASK {
+        (x, m) = expr(words, tape, x + 1, m, false)?;
+        x = expect(words, x, kinds::COLON)?;
+        (x, m) = binary(words, tape, x, m, LOOSEST, arm)?;
+        m = emit(tape, m, CHOICE, 0);
     }
+    Ok((x, m))
 }
 
 // Operands with operators of the levels below `below` between them.
@@ -94,10 +69,8 @@ fn binary(words: &Table, tape: &mut Tape, at: usize, n: usize, below: u32, arm: 
     requires below_le_loosest { below ≤ loosest }
     ensures { IsBinary words.now at n tape.old result tape.new below arm }
 {
-    match operand(words, tape, at, n) {
-        Out::At(x, m) => operators(words, tape, x, m, below, arm),
-        Out::Bad(i) => Out::Bad(i),
-    }
+    let (x, m) = operand(words, tape, at, n)?;
+    operators(words, tape, x, m, below, arm)
 }
 
 // What follows an operand that is on the tape.
@@ -107,25 +80,15 @@ fn operators(words: &Table, tape: &mut Tape, at: usize, n: usize, below: u32, ar
     requires below_le_loosest { below ≤ loosest }
     ensures { IsOperators words.now at n tape.old result tape.new below arm }
 {
-    let mut x = at;
-    let mut m = n;
+    let (mut x, mut m) = (at, n);
     loop {
         let k = kind(words, x);
         let l = level(k);
-        let e = arm_ends(words, x, arm);
-        if e {
-            return Out::At(x, m);
+        if arm_ends(words, x, arm) || l >= below {
+            return Ok((x, m));
         }
-        if l >= below {
-            return Out::At(x, m);
-        }
-        match binary(words, tape, x + 1, m, l, arm) {
-            Out::At(y, o) => {
-                x = y;
-                m = binary_item(tape, o, k);
-            }
-            Out::Bad(i) => return Out::Bad(i),
-        }
+        (x, m) = binary(words, tape, x + 1, m, l, arm)?;
+        m = binary_item(tape, m, k);
     }
 }
 
@@ -142,14 +105,8 @@ fn operand(words: &Table, tape: &mut Tape, at: usize, n: usize) -> Out
         kinds::OPEN => inside(words, tape, at, n),
         kinds::BRACE => joined(words, tape, at, n),
         kinds::LESS => typed(words, tape, at, n),
-        _ => {
-            let p = prefix(k);
-            if p {
-                unary(words, tape, at, n, k)
-            } else {
-                Out::Bad(at)
-            }
-        }
+        _ if prefix(k) => unary(words, tape, at, n, k),
+        _ => Err(Misfit { at }),
     }
 }
 
@@ -159,19 +116,12 @@ fn number(words: &Table, tape: &mut Tape, at: usize, n: usize) -> Out
     requires { Starts words.now at n number_kind }
     ensures { IsOperand words.now at n tape.old result tape.new }
 {
-    let k = kind(words, at + 1);
-    if k != kinds::BRACE {
+    if kind(words, at + 1) != kinds::BRACE {
         return constant(words, tape, at, n);
     }
-    let o = expr(words, tape, at + 2, n, false);
-    match closed(words, o, kinds::UNBRACE) {
-        Out::At(x, m) => {
-            let v = value(words, at);
-            let q = put(words, tape, at, m, COPIES, v);
-            Out::At(x, q)
-        }
-        Out::Bad(i) => Out::Bad(i),
-    }
+    let (x, m) = expr(words, tape, at + 2, n, false)?;
+    let y = expect(words, x, kinds::UNBRACE)?;
+    Ok((y, put(words, tape, at, m, COPIES, value(words, at))))
 }
 
 // A name: a cell of a memory, or what is read, with bit positions.
@@ -180,23 +130,14 @@ fn named(words: &Table, tape: &mut Tape, at: usize, n: usize) -> Out
     requires { Starts words.now at n name_kind }
     ensures { IsOperand words.now at n tape.old result tape.new }
 {
-    let is_memory = memory(words, at);
-    if !is_memory {
+    if !memory(words, at) {
         let m = put(words, tape, at, n, READ, 0);
         return part(words, tape, at + 1, m);
     }
-    let k = kind(words, at + 1);
-    if k != kinds::BRACKET {
-        return Out::Bad(at + 1);
-    }
-    let o = expr(words, tape, at + 2, n, false);
-    match closed(words, o, kinds::UNBRACKET) {
-        Out::At(x, m) => {
-            let q = put(words, tape, at, m, CELL, 0);
-            Out::At(x, q)
-        }
-        Out::Bad(i) => Out::Bad(i),
-    }
+    let x = expect(words, at + 1, kinds::BRACKET)?;
+    let (y, m) = expr(words, tape, x, n, false)?;
+    let z = expect(words, y, kinds::UNBRACKET)?;
+    Ok((z, put(words, tape, at, m, CELL, 0)))
 }
 
 // An expression in parentheses, with bit positions.
@@ -205,14 +146,10 @@ fn inside(words: &Table, tape: &mut Tape, at: usize, n: usize) -> Out
     requires { Starts words.now at n open_kind }
     ensures { IsOperand words.now at n tape.old result tape.new }
 {
-    let o = expr(words, tape, at + 1, n, false);
-    match closed(words, o, kinds::CLOSE) {
-        Out::At(x, m) => {
-            let q = put(words, tape, at, m, INSIDE, 0);
-            part(words, tape, x, q)
-        }
-        Out::Bad(i) => Out::Bad(i),
-    }
+    let (x, m) = expr(words, tape, at + 1, n, false)?;
+    let y = expect(words, x, kinds::CLOSE)?;
+    let q = put(words, tape, at, m, INSIDE, 0);
+    part(words, tape, y, q)
 }
 
 // A concatenation.
@@ -221,19 +158,10 @@ fn joined(words: &Table, tape: &mut Tape, at: usize, n: usize) -> Out
     requires { Starts words.now at n brace_kind }
     ensures { IsOperand words.now at n tape.old result tape.new }
 {
-    match expr(words, tape, at + 1, n, false) {
-        Out::At(x, m) => {
-            let o = parts(words, tape, x, m);
-            match closed(words, o, kinds::UNBRACE) {
-                Out::At(y, q) => {
-                    let p = put(words, tape, at, q, JOINED, 0);
-                    Out::At(y, p)
-                }
-                Out::Bad(i) => Out::Bad(i),
-            }
-        }
-        Out::Bad(i) => Out::Bad(i),
-    }
+    let (x, m) = expr(words, tape, at + 1, n, false)?;
+    let (y, q) = parts(words, tape, x, m)?;
+    let z = expect(words, y, kinds::UNBRACE)?;
+    Ok((z, put(words, tape, at, q, JOINED, 0)))
 }
 
 // What follows a part that is on the tape.
@@ -242,21 +170,12 @@ fn parts(words: &Table, tape: &mut Tape, at: usize, n: usize) -> Out
     requires { Room words.now at n }
     ensures { IsParts words.now at n tape.old result tape.new }
 {
-    let mut x = at;
-    let mut m = n;
-    loop {
-        let k = kind(words, x);
-        if k != kinds::COMMA {
-            return Out::At(x, m);
-        }
-        match expr(words, tape, x + 1, m, false) {
-            Out::At(y, o) => {
-                x = y;
-                m = emit(tape, o, BESIDE, 0);
-            }
-            Out::Bad(i) => return Out::Bad(i),
-        }
+    let (mut x, mut m) = (at, n);
+    while kind(words, x) == kinds::COMMA {
+        (x, m) = expr(words, tape, x + 1, m, false)?;
+        m = emit(tape, m, BESIDE, 0);
     }
+    Ok((x, m))
 }
 
 // An operator before its operand.
@@ -265,13 +184,8 @@ fn unary(words: &Table, tape: &mut Tape, at: usize, n: usize, k: u32) -> Out
     requires { StartsMark words.now at n k }
     ensures { IsOperand words.now at n tape.old result tape.new }
 {
-    match operand(words, tape, at + 1, n) {
-        Out::At(x, m) => {
-            let q = unary_item(words, tape, at, m, k);
-            Out::At(x, q)
-        }
-        Out::Bad(i) => Out::Bad(i),
-    }
+    let (x, m) = operand(words, tape, at + 1, n)?;
+    Ok((x, unary_item(words, tape, at, m, k)))
 }
 
 // A case: its selector, then its arms.
@@ -280,25 +194,13 @@ fn select(words: &Table, tape: &mut Tape, at: usize, n: usize) -> Out
     requires { Starts words.now at n case_kind }
     ensures { IsOperand words.now at n tape.old result tape.new }
 {
-    let k = kind(words, at + 1);
-    if k != kinds::OPEN {
-        return Out::Bad(at + 1);
-    }
-    let o = expr(words, tape, at + 2, n, false);
-    let c = closed(words, o, kinds::CLOSE);
-    match closed(words, c, kinds::BRACE) {
-        Out::At(x, m) => {
-            let q = put(words, tape, at, m, SELECT, 0);
-            match arms(words, tape, x, q) {
-                Out::At(y, p) => {
-                    let s = put(words, tape, at, p, SELECTED, 0);
-                    Out::At(y, s)
-                }
-                Out::Bad(i) => Out::Bad(i),
-            }
-        }
-        Out::Bad(i) => Out::Bad(i),
-    }
+    let x = expect(words, at + 1, kinds::OPEN)?;
+    let (y, m) = expr(words, tape, x, n, false)?;
+    let z = expect(words, y, kinds::CLOSE)?;
+    let first = expect(words, z, kinds::BRACE)?;
+    let q = put(words, tape, at, m, SELECT, 0);
+    let (end, p) = arms(words, tape, first, q)?;
+    Ok((end, put(words, tape, at, p, SELECTED, 0)))
 }
 
 // The arms, to their `}`.
@@ -307,11 +209,10 @@ fn arms(words: &Table, tape: &mut Tape, at: usize, n: usize) -> Out
     requires { Room words.now at n }
     ensures { IsArms words.now at n tape.old result tape.new }
 {
-    let k = kind(words, at);
-    match k {
+    match kind(words, at) {
         kinds::NUMBER => labelled(words, tape, at, n),
         kinds::DEFAULT => default(words, tape, at, n),
-        _ => Out::Bad(at),
+        _ => Err(Misfit { at }),
     }
 }
 
@@ -321,22 +222,11 @@ fn labelled(words: &Table, tape: &mut Tape, at: usize, n: usize) -> Out
     requires { Starts words.now at n number_kind }
     ensures { IsArms words.now at n tape.old result tape.new }
 {
-    let k = kind(words, at + 1);
-    if k != kinds::ARROW {
-        return Out::Bad(at + 1);
-    }
-    let o = expr(words, tape, at + 2, n, true);
-    match closed(words, o, kinds::BAR) {
-        Out::At(x, m) => match arms(words, tape, x, m) {
-            Out::At(y, q) => {
-                let v = value(words, at);
-                let p = put(words, tape, at, q, ARM, v);
-                Out::At(y, p)
-            }
-            Out::Bad(i) => Out::Bad(i),
-        },
-        Out::Bad(i) => Out::Bad(i),
-    }
+    let x = expect(words, at + 1, kinds::ARROW)?;
+    let (y, m) = expr(words, tape, x, n, true)?;
+    let z = expect(words, y, kinds::BAR)?;
+    let (end, q) = arms(words, tape, z, m)?;
+    Ok((end, put(words, tape, at, q, ARM, value(words, at))))
 }
 
 // The last arm.
@@ -345,16 +235,8 @@ fn default(words: &Table, tape: &mut Tape, at: usize, n: usize) -> Out
     requires { Starts words.now at n rest_kind }
     ensures { IsArms words.now at n tape.old result tape.new }
 {
-    let k = kind(words, at + 1);
-    if k != kinds::ARROW {
-        return Out::Bad(at + 1);
-    }
-    let o = expr(words, tape, at + 2, n, false);
-    match closed(words, o, kinds::UNBRACE) {
-        Out::At(x, m) => {
-            let q = put(words, tape, at, m, DEFAULT, 0);
-            Out::At(x, q)
-        }
-        Out::Bad(i) => Out::Bad(i),
-    }
+    let x = expect(words, at + 1, kinds::ARROW)?;
+    let (y, m) = expr(words, tape, x, n, false)?;
+    let z = expect(words, y, kinds::UNBRACE)?;
+    Ok((z, put(words, tape, at, m, DEFAULT, 0)))
 }

@@ -5,6 +5,7 @@ use mathlib.Core.List.{List, [], ◌∷◌, ◌++◌}
 use mathlib.Core.Option.{Option, none, some}
 use Prim.Native.Nat.{ℕ, zero, suc, ◌+◌, ◌*◌, ◌≤◌, ◌<◌}
 use native.Mathlib.Omega.{arith}
+use mir.Val.{bool_byte}
 use lib.Dec.{eqb}
 use lib.ListN.{drop}
 use borrow.Author.Tests.{eq-eqb, ne_eqb}
@@ -17,14 +18,13 @@ use Rattle.signs.specs.Kinds.{spelled_words}
 use Rattle.words.specs.Table.{word_of}
 use Rattle.tape.specs.Tape.{one_if}
 use Rattle.readers.specs.Marks.{count, kind_at, numeral_at, name_at, Marked, fixed_of}
-use Rattle.readers.specs.Meets.{On, Agrees, read, fault}
+use Rattle.readers.specs.Meets.{Out, Finds, Lacks, On, Agrees, read, fault}
 use Rattle.head_reader.specs.Heads.{head_p}
 use Rattle.head_reader.specs.Declares.{port_name_p, memory_name_p, size_p, declarations_p}
 use Rattle.readers.proofs.Laws.{on_more, on_as}
-use Rattle.readers.proofs.Spells.{kind_inside, word, on_miss, num_miss, name_miss}
+use Rattle.readers.proofs.Spells.{kind_inside, word, word_found, on_miss, num_miss, name_miss}
 use Rattle.type_reader.proofs.Grammar.{declared_none, declared_some}
 use Rattle.readers.proofs.Lists.{Begins, Misses, some_begins, some_misses}
-use Rattle.readers.specs.declared.Out.{Out}
 use Rattle.readers.proofs.Fixed.{s_input, s_output, s_reg, s_ff}
 
 -- ---- the first word of a port and of a memory: one of two
@@ -79,13 +79,10 @@ module _ {w : List ℕ} {x k : ℕ} (e : k ≡ kind_at w x) where
 
 -- ---- what a port's value holds
 
-pub way_is : (i : Bool) (b : Bool) → i ≡ b → 2 * one_if b ≡ 2 * one_if i
-way_is i b e = rw e
-
-pub way_few : (i : Bool) → one_if i ≤ 1
+pub one_byte : (i : Bool) → one_if i ≡ bool_byte i
 unfolding one_if
-way_few true = omega arith
-way_few false = omega arith
+one_byte true = refl
+one_byte false = refl
 
 -- ---- the readers
 
@@ -102,12 +99,12 @@ size_until g (x ∷ r) = go (is_num x)
 
 module _ {text : List ℕ} {ms : List (List ℕ)} {w : List ℕ} {ws : List Word} (M : Marked text ms w ws) (at : ℕ) where
   module _ {S : Type 0} (g : Name → List Word → Res S) (d : List Word → Res S) where
-    on_name : kind_at w at ≡ 2 → on is_name (drop at ws) g d ≡ g (name_at text w at) (drop (at + 1) ws)
+    on_name : {y : ℕ} → Finds w at 2 y → on is_name (drop at ws) g d ≡ g (name_at text w at) (drop y ws)
     unfolding on is_name word_of
-    on_name e = ap (λ (l : List Word). on is_name l g d) (word M at 2 (omega arith) e)
+    on_name f = ap (λ (l : List Word). on is_name l g d) (word_found M at 2 (omega arith) f)
 
-    off_name : (kind_at w at ≡ 2 → ⊥) → on is_name (drop at ws) g d ≡ d (drop at ws)
-    off_name h = on_miss M is_name g d at (λ p l v. name_miss text p l v _ h)
+    off_name : {j : ℕ} → Lacks w at 2 j → on is_name (drop at ws) g d ≡ d (drop j ws)
+    off_name h = on_miss M is_name g d at (λ p l v. name_miss text p l v _ h.kind) ∙ ap (λ (y : ℕ). d (drop y ws)) (sym h.stays)
 
   module _ (f : ℕ) where
     pub port_untyped : (i : Bool) → (kind_at w at ≡ 48 → ⊥) → port_p f i (drop at ws) ≡ port_name_p i untyped (drop at ws)
@@ -126,20 +123,20 @@ module _ {text : List ℕ} {ms : List (List ℕ)} {w : List ℕ} {ws : List Word
     unfolding memory_p memory_name_p
     memory_typed i y e q = declared_some M f at (λ t x. memory_name_p t x) e ∙ ap (λ (y : ℕ). until (type_p f (drop y ws)) ">" (λ t q x. memory_name_p (Declared.typed t) x)) (sym q)
 
-    pub signed_name : kind_at w at ≡ 2 → name_p f (drop at ws) ≡ ok (name_at text w at) (drop (at + 1) ws)
+    pub signed_name : {y : ℕ} → Finds w at 2 y → name_p f (drop at ws) ≡ ok (name_at text w at) (drop y ws)
     unfolding name_p
     signed_name e = on_name _ _ e
 
-    pub signed_none : (kind_at w at ≡ 2 → ⊥) → name_p f (drop at ws) ≡ bad (drop at ws)
+    pub signed_none : {j : ℕ} → Lacks w at 2 j → name_p f (drop at ws) ≡ bad (drop j ws)
     unfolding name_p
     signed_none h = off_name _ _ h
 
-    pub head_name : kind_at w at ≡ 2 → head_p f (drop at ws)
-        ≡ expect "(" (drop (at + 1) ws) (λ p x. until (commas_p (λ f l. name_p f l) f x) ")" (λ ns q y. expect "{" y (λ s z. declarations_p f (name_at text w at) ns z)))
+    pub head_name : {y : ℕ} → Finds w at 2 y → head_p f (drop at ws)
+        ≡ expect "(" (drop y ws) (λ p x. until (commas_p (λ f l. name_p f l) f x) ")" (λ ns q y. expect "{" y (λ s z. declarations_p f (name_at text w at) ns z)))
     unfolding head_p declarations_p
     head_name e = on_name _ _ e
 
-    pub head_none : (kind_at w at ≡ 2 → ⊥) → head_p f (drop at ws) ≡ bad (drop at ws)
+    pub head_none : {j : ℕ} → Lacks w at 2 j → head_p f (drop at ws) ≡ bad (drop j ws)
     unfolding head_p
     head_none h = off_name _ _ h
 
@@ -154,19 +151,19 @@ module _ {text : List ℕ} {ms : List (List ℕ)} {w : List ℕ} {ws : List Word
       declarations_none b = rw (some_misses M (λ f i r. port_p f i r) f b) refl
 
   module _ (d : Declared) where
-    pub port_name : (i : Bool) → kind_at w at ≡ 2 → port_name_p i d (drop at ws) ≡ expect ";" (drop (at + 1) ws) (λ q z. ok (record { input = i; type = d; called = name_at text w at }) z)
+    pub port_name : (i : Bool) {y : ℕ} → Finds w at 2 y → port_name_p i d (drop at ws) ≡ expect ";" (drop y ws) (λ q z. ok (record { input = i; type = d; called = name_at text w at }) z)
     unfolding port_name_p
     port_name i e = on_name _ _ e
 
-    pub port_none : (i : Bool) → (kind_at w at ≡ 2 → ⊥) → port_name_p i d (drop at ws) ≡ bad (drop at ws)
+    pub port_none : (i : Bool) {j : ℕ} → Lacks w at 2 j → port_name_p i d (drop at ws) ≡ bad (drop j ws)
     unfolding port_name_p
     port_none i h = off_name _ _ h
 
-    pub memory_name : kind_at w at ≡ 2 → memory_name_p d (drop at ws) ≡ until (size_p (drop (at + 1) ws)) ";" (λ s q z. ok (record { type = d; called = name_at text w at; size = s }) z)
+    pub memory_name : {y : ℕ} → Finds w at 2 y → memory_name_p d (drop at ws) ≡ until (size_p (drop y ws)) ";" (λ s q z. ok (record { type = d; called = name_at text w at; size = s }) z)
     unfolding memory_name_p
-    memory_name e = on_name _ _ e ∙ size_until (λ s. record { type = d; called = name_at text w at; size = s }) (drop (at + 1) ws)
+    memory_name {y = y} e = on_name _ _ e ∙ size_until (λ s. record { type = d; called = name_at text w at; size = s }) (drop y ws)
 
-    pub memory_none : (kind_at w at ≡ 2 → ⊥) → memory_name_p d (drop at ws) ≡ bad (drop at ws)
+    pub memory_none : {j : ℕ} → Lacks w at 2 j → memory_name_p d (drop at ws) ≡ bad (drop j ws)
     unfolding memory_name_p
     memory_none h = off_name _ _ h
 

@@ -7,9 +7,8 @@ use Rattle.language.specs.Reader.{Res, ok, bad, bind, on, is_num, is_name, expec
 use Rattle.language.specs.Parser.{is_way, is_store, port_p, memory_p, name_p}
 use Rattle.tape.specs.Tape.{item, ACTOR, one_if, is_typed, flats, flat_d, flat_port, flat_size, flat_memory, flat_signed}
 use Rattle.readers.specs.Marks.{count, Marked}
-use Rattle.readers.specs.Meets.{On, Moved, Agrees, Met}
+use Rattle.readers.specs.Meets.{Out, On, Moved, Agrees, Met}
 use Rattle.head_reader.specs.Heads.{Head, flat_head}
-use Rattle.readers.specs.declared.Out.{Out}
 
 -- what follows a port's type, as `port_p` has it
 unfoldable pub port_name_p : Bool → Declared → List Word → Res Port

@@ -6,8 +6,7 @@ use Rattle.language.specs.Tree.{Port, Memory, Group, Actor}
 use Rattle.language.specs.Reader.{Res, ok, bad, bind, on, is_name, expect, until, many_p, some_p, commas_p}
 use Rattle.language.specs.Parser.{is_way, is_store, port_p, memory_p, name_p}
 use Rattle.tape.specs.Tape.{item, ACTOR, flats, flat_signed, flat_port, flat_memory}
-use Rattle.readers.specs.Meets.{Met}
-use Rattle.readers.specs.declared.Out.{Out}
+use Rattle.readers.specs.Meets.{Out, Met}
 
 pub record Head : Type 0 where
   pub called : Name

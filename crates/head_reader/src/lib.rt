@@ -3,13 +3,12 @@
 // what was read, after those that are on the tape, or the first word that does not fit.
 #![tactic(auto)]
 
-ghost use Rattle.std.specs.Prelude.{◌≡◌, true, ◌*◌};
-ghost use Rattle.tape.specs.Tape.{one_if};
+ghost use Rattle.std.specs.Prelude.{true};
 ghost use Rattle.readers.specs.Meets.{Room, Within};
 ghost use Rattle.head_reader.specs.Heads.{IsHead, IsMemories, IsMemory, IsPort, IsPorts, IsSignature};
 ghost use Rattle.head_reader.specs.Declares.{IsDeclarations, IsMemoryName, IsPortName, IsSigned, IsSize};
 
-use readers::{Out, Table, Tape, closed, kind, put, value};
+use readers::{Misfit, Out, Table, Tape, expect, kind, put, value};
 use signs::kinds;
 use tape::{ACTOR, DECLARED, MEMORY, SIGNED, SIZE};
 use type_reader::typ;
@@ -24,21 +23,13 @@ pub fn head(words: &Table, tape: &mut Tape, at: usize, n: usize) -> Out
     requires { Room words.now at n }
     ensures { IsHead words.now at n tape.old result tape.new }
 {
-    let name = kind(words, at);
-    if name != kinds::NAME {
-        return Out::Bad(at);
-    }
-    let open = kind(words, at + 1);
-    if open != kinds::OPEN {
-        return Out::Bad(at + 1);
-    }
+    let x = expect(words, at, kinds::NAME)?;
+    let y = expect(words, x, kinds::OPEN)?;
     let m = put(words, tape, at, n, ACTOR, 0);
-    let s = signature(words, tape, at + 2, m);
-    let c = closed(words, s, kinds::CLOSE);
-    match closed(words, c, kinds::BRACE) {
-        Out::At(x, o) => declarations(words, tape, x, o),
-        Out::Bad(i) => Out::Bad(i),
-    }
+    let (z, o) = signature(words, tape, y, m)?;
+    let end = expect(words, z, kinds::CLOSE)?;
+    let first = expect(words, end, kinds::BRACE)?;
+    declarations(words, tape, first, o)
 }
 
 // The names of the signature, one or more, with commas between.
@@ -46,20 +37,13 @@ fn signature(words: &Table, tape: &mut Tape, at: usize, n: usize) -> Out
     requires { Room words.now at n }
     ensures { IsSignature words.now at n tape.old result tape.new }
 {
-    let mut x = at;
-    let mut m = n;
+    let (mut x, mut m) = (at, n);
     loop {
-        match signed(words, tape, x, m) {
-            Out::At(y, o) => {
-                let k = kind(words, y);
-                if k != kinds::COMMA {
-                    return Out::At(y, o);
-                }
-                x = y + 1;
-                m = o;
-            }
-            Out::Bad(i) => return Out::Bad(i),
+        (x, m) = signed(words, tape, x, m)?;
+        if kind(words, x) != kinds::COMMA {
+            return Ok((x, m));
         }
+        x += 1;
     }
 }
 
@@ -68,12 +52,8 @@ fn signed(words: &Table, tape: &mut Tape, at: usize, n: usize) -> Out
     requires { Room words.now at n }
     ensures { IsSigned words.now at n tape.old result tape.new }
 {
-    let k = kind(words, at);
-    if k != kinds::NAME {
-        return Out::Bad(at);
-    }
-    let m = put(words, tape, at, n, SIGNED, 0);
-    Out::At(at + 1, m)
+    let x = expect(words, at, kinds::NAME)?;
+    Ok((x, put(words, tape, at, n, SIGNED, 0)))
 }
 
 // The ports, one or more, and the memories, after a name and a signature that are on the tape.
@@ -83,12 +63,10 @@ fn declarations(words: &Table, tape: &mut Tape, at: usize, n: usize) -> Out
 {
     let k = kind(words, at);
     if k != kinds::INPUT && k != kinds::OUTPUT {
-        return Out::Bad(at);
+        return Err(Misfit { at });
     }
-    match ports(words, tape, at, n) {
-        Out::At(x, m) => memories(words, tape, x, m),
-        Out::Bad(i) => Out::Bad(i),
-    }
+    let (x, m) = ports(words, tape, at, n)?;
+    memories(words, tape, x, m)
 }
 
 // Ports, none or more.
@@ -96,20 +74,13 @@ fn ports(words: &Table, tape: &mut Tape, at: usize, n: usize) -> Out
     requires { Room words.now at n }
     ensures { IsPorts words.now at n tape.old result tape.new }
 {
-    let mut x = at;
-    let mut m = n;
+    let (mut x, mut m) = (at, n);
     loop {
         let k = kind(words, x);
         if k != kinds::INPUT && k != kinds::OUTPUT {
-            return Out::At(x, m);
+            return Ok((x, m));
         }
-        match port(words, tape, x, m, k == kinds::INPUT) {
-            Out::At(y, o) => {
-                x = y;
-                m = o;
-            }
-            Out::Bad(i) => return Out::Bad(i),
-        }
+        (x, m) = port(words, tape, x, m, k == kinds::INPUT)?;
     }
 }
 
@@ -119,23 +90,13 @@ fn port(words: &Table, tape: &mut Tape, at: usize, n: usize, input: bool) -> Out
     requires within { Within words.now at }
     ensures { IsPort words.now at n tape.old result tape.new input }
 {
-    let mark = way(input);
-    let k = kind(words, at + 1);
-    if k != kinds::LESS {
+    let mark = INPUT * u32::from(input);
+    if kind(words, at + 1) != kinds::LESS {
         return port_name(words, tape, at + 1, n, mark);
     }
-    let o = typ(words, tape, at + 2, n);
-    match closed(words, o, kinds::GREATER) {
-        Out::At(x, m) => port_name(words, tape, x, m, mark + TYPED),
-        Out::Bad(i) => Out::Bad(i),
-    }
-}
-
-// What an input adds to a port's value.
-fn way(input: bool) -> u32
-    ensures { result ≡ 2 * one_if input }
-{
-    if input { INPUT } else { 0 }
+    let (x, m) = typ(words, tape, at + 2, n)?;
+    let y = expect(words, x, kinds::GREATER)?;
+    port_name(words, tape, y, m, mark + TYPED)
 }
 
 // A port's name, after a type that is on the tape or none.
@@ -143,16 +104,9 @@ fn port_name(words: &Table, tape: &mut Tape, at: usize, n: usize, mark: u32) -> 
     requires { Room words.now at n }
     ensures { IsPortName words.now at n tape.old result tape.new mark }
 {
-    let name = kind(words, at);
-    if name != kinds::NAME {
-        return Out::Bad(at);
-    }
-    let k = kind(words, at + 1);
-    if k != kinds::SEMICOLON {
-        return Out::Bad(at + 1);
-    }
-    let m = put(words, tape, at, n, DECLARED, mark);
-    Out::At(at + 2, m)
+    let x = expect(words, at, kinds::NAME)?;
+    let y = expect(words, x, kinds::SEMICOLON)?;
+    Ok((y, put(words, tape, at, n, DECLARED, mark)))
 }
 
 // Memories, none or more.
@@ -160,20 +114,13 @@ fn memories(words: &Table, tape: &mut Tape, at: usize, n: usize) -> Out
     requires { Room words.now at n }
     ensures { IsMemories words.now at n tape.old result tape.new }
 {
-    let mut x = at;
-    let mut m = n;
+    let (mut x, mut m) = (at, n);
     loop {
         let k = kind(words, x);
         if k != kinds::REG && k != kinds::FF {
-            return Out::At(x, m);
+            return Ok((x, m));
         }
-        match storage(words, tape, x, m) {
-            Out::At(y, o) => {
-                x = y;
-                m = o;
-            }
-            Out::Bad(i) => return Out::Bad(i),
-        }
+        (x, m) = storage(words, tape, x, m)?;
     }
 }
 
@@ -183,15 +130,12 @@ fn storage(words: &Table, tape: &mut Tape, at: usize, n: usize) -> Out
     requires within { Within words.now at }
     ensures { IsMemory words.now at n tape.old result tape.new true }
 {
-    let k = kind(words, at + 1);
-    if k != kinds::LESS {
+    if kind(words, at + 1) != kinds::LESS {
         return memory_name(words, tape, at + 1, n, 0);
     }
-    let o = typ(words, tape, at + 2, n);
-    match closed(words, o, kinds::GREATER) {
-        Out::At(x, m) => memory_name(words, tape, x, m, TYPED),
-        Out::Bad(i) => Out::Bad(i),
-    }
+    let (x, m) = typ(words, tape, at + 2, n)?;
+    let y = expect(words, x, kinds::GREATER)?;
+    memory_name(words, tape, y, m, TYPED)
 }
 
 // A memory's name and size, after a type that is on the tape or none.
@@ -199,18 +143,10 @@ fn memory_name(words: &Table, tape: &mut Tape, at: usize, n: usize, typed: u32) 
     requires { Room words.now at n }
     ensures { IsMemoryName words.now at n tape.old result tape.new typed }
 {
-    let name = kind(words, at);
-    if name != kinds::NAME {
-        return Out::Bad(at);
-    }
-    let s = size(words, tape, at + 1, n);
-    match closed(words, s, kinds::SEMICOLON) {
-        Out::At(x, m) => {
-            let q = put(words, tape, at, m, MEMORY, typed);
-            Out::At(x, q)
-        }
-        Out::Bad(i) => Out::Bad(i),
-    }
+    let x = expect(words, at, kinds::NAME)?;
+    let (y, m) = size(words, tape, x, n)?;
+    let z = expect(words, y, kinds::SEMICOLON)?;
+    Ok((z, put(words, tape, at, m, MEMORY, typed)))
 }
 
 // The size of a memory, an item where there is one.
@@ -218,11 +154,8 @@ fn size(words: &Table, tape: &mut Tape, at: usize, n: usize) -> Out
     requires { Room words.now at n }
     ensures { IsSize words.now at n tape.old result tape.new }
 {
-    let k = kind(words, at);
-    if k != kinds::NUMBER {
-        return Out::At(at, n);
+    if kind(words, at) != kinds::NUMBER {
+        return Ok((at, n));
     }
-    let v = value(words, at);
-    let m = put(words, tape, at, n, SIZE, v);
-    Out::At(at + 1, m)
+    Ok((at + 1, put(words, tape, at, n, SIZE, value(words, at))))
 }

@@ -9,9 +9,10 @@ use lib.Seq.{sets}
 use Rattle.language.specs.Words.{Word}
 use Rattle.language.specs.Reader.{Res, bind}
 use Rattle.readers.specs.Marks.{count}
-use Rattle.readers.specs.Meets.{On, Went, Stopped, MovedTo, Moved, Agrees, read, fault, WordStands, Closes}
-use Rattle.readers.specs.declared.Out.{Out}
-use Rattle.readers.specs.declared.Out.TheVariants.{At, Bad}
+use Rattle.std.specs.Prelude.{Result, Ok, Err, IsErrAnd}
+use Rattle.std.proofs.lemmas.Result.{err_from_is_err_and}
+use Rattle.readers.specs.Meets.{Out, On, Went, Stopped, MovedTo, Moved, Agrees, read, fault}
+use Rattle.readers.specs.declared.Misfit.{Misfit}
 
 -- ---- fuel
 
@@ -42,12 +43,6 @@ on_value {op} {p} e o = on_as (ap (λ (v : ℕ). op ∷ p ∷ v ∷ []) e) o
 
 -- ---- where answers lie
 
-pub moved_at_law : {len at n x m : ℕ} {o : Out} → o ≡ At x m → Moved len at n o → Went len at n x m
-moved_at_law {len} {at} {n} e h = subst (MovedTo len at n) e h.to
-
-pub moved_bad : {len at n i : ℕ} {o : Out} → o ≡ Bad i → Moved len at n o → Stopped len i
-moved_bad {len} {at} {n} e h = subst (MovedTo len at n) e h.to
-
 -- past a word
 pub moved_word : {len at n : ℕ} → at < len → Went len at n (at + 1) n
 moved_word h = omega arith
@@ -57,37 +52,21 @@ pub moved_more : {len at n x m : ℕ} {o : Out} → Went len at n x m → Moved 
 moved_more {len} {at} {n} {x} {m} {o} w v = go o w v.to
   where
     go : (o : Out) → Went len at n x m → MovedTo len x m o → Moved len at n o
-    go (At y p) w v = record { to = omega arith }
-    go (Bad i) w v = record { to = v }
-
-pub stands : {w : List ℕ} {at n : ℕ} {o : Out} → count w ≤ 8192 → Moved (count w) at n o → WordStands w o
-stands {w} {at} {n} {o} h v = go o h v.to
-  where
-    go : (o : Out) → count w ≤ 8192 → MovedTo (count w) at n o → WordStands w o
-    go (At y p) h v = record { to = omega arith }
-    go (Bad i) h v = record { to = tt }
+    go (Ok (y, p)) w v = record { to = omega arith }
+    go (Err e) w v = record { to = v }
 
 -- ---- the readers' answers
 
-pub bind_at : {A B : Type 0} {fl : A → List ℕ} {fl' : B → List ℕ} {ws : List Word} (u : Res A) (v : A → List Word → Res B) {n b x m : ℕ} {t t₁ s t' : List ℕ} {o r : Out}
-    → o ≡ At x m → Agrees fl ws n t u o t₁ → ((e : A) → On t n (fl e) m t₁ → Agrees fl' ws b s (v e (drop x ws)) r t') → Agrees fl' ws b s (bind u v) r t'
+pub bind_ok : {A B : Type 0} {fl : A → List ℕ} {fl' : B → List ℕ} {ws : List Word} (u : Res A) (v : A → List Word → Res B) {n b x m : ℕ} {t t₁ s t' : List ℕ} {r : Out}
+    → Agrees fl ws n t u (Ok (x, m)) t₁ → ((e : A) → On t n (fl e) m t₁ → Agrees fl' ws b s (v e (drop x ws)) r t') → Agrees fl' ws b s (bind u v) r t'
 unfolding bind
-bind_at {A} {fl} {fl'} {ws} u v {n} {b} {x} {m} {t} {t₁} {s} {t'} {o} {r} eq h k = go (subst (λ (o : Out). Agrees fl ws n t u o t₁) eq h) k
-  where
-    go : {u : Res A} {x m : ℕ} → Agrees fl ws n t u (At x m) t₁ → ((e : A) → On t n (fl e) m t₁ → Agrees fl' ws b s (v e (drop x ws)) r t') → Agrees fl' ws b s (bind u v) r t'
-    go (read {e = e} p) k = k e p
+bind_ok u v (read {e = e} p) k = k e p
 
-pub bind_bad : {A B : Type 0} {fl : A → List ℕ} {fl' : B → List ℕ} {ws : List Word} (u : Res A) (v : A → List Word → Res B) {n b i : ℕ} {t t₁ s t' : List ℕ} {o : Out}
-    → o ≡ Bad i → Agrees fl ws n t u o t₁ → Agrees fl' ws b s (bind u v) (Bad i) t'
+pub bind_err : {A B : Type 0} {fl : A → List ℕ} {fl' : B → List ℕ} {ws : List Word} (u : Res A) (v : A → List Word → Res B) {n b : ℕ} {t t₁ s t' : List ℕ} {e : Misfit}
+    → Agrees fl ws n t u (Err e) t₁ → Agrees fl' ws b s (bind u v) (Err e) t'
 unfolding bind
-bind_bad {A} {fl} {fl'} {ws} u v {n} {b} {i} {t} {t₁} {s} {t'} eq h = go (subst (λ (o : Out). Agrees fl ws n t u o t₁) eq h)
-  where
-    go : {u : Res A} {i : ℕ} → Agrees fl ws n t u (Bad i) t₁ → Agrees fl' ws b s (bind u v) (Bad i) t'
-    go fault = fault
+bind_err u v fault = fault
 
--- an answer by its constructor
-pub agrees_as : {A : Type 0} {fl : A → List ℕ} {ws : List Word} {n : ℕ} {t t' : List ℕ} {u : Res A} {o o' : Out} → o ≡ o' → Agrees fl ws n t u o t' → Agrees fl ws n t u o' t'
-agrees_as {fl} {ws} {n} {t} {t'} {u} e h = subst (λ (o : Out). Agrees fl ws n t u o t') e h
-
-pub closes_of : {w : List ℕ} {kw : ℕ} {o o' r : Out} → o ≡ o' → Closes w kw o' r → Closes w kw o r
-closes_of {w} {kw} {r} e h = subst (λ (o : Out). Closes w kw o r) (sym e) h
+-- what a `?` hands on
+pub same_err : {A : Type 0} {r : Result A Misfit} {e : Misfit} → IsErrAnd r (λ i. i ≡ e) → r ≡ Err e
+same_err {r = r} h = let p = err_from_is_err_and r h in p.1 ∙ ap (λ (e : Misfit). Err e) p.2

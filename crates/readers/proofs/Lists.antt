@@ -10,10 +10,10 @@ use Rattle.language.specs.Reader.{Res, ok, bad, bind, on, many_p, some_p}
 use Rattle.words.specs.Table.{word_of}
 use Rattle.tape.specs.Tape.{flats}
 use Rattle.readers.specs.Marks.{count, kind_at, place_at, long_at, value_at, Marked}
-use Rattle.readers.specs.Meets.{On, Went, Agrees, read, fault, Met}
-use Rattle.readers.specs.declared.Out.{Out}
-use Rattle.readers.specs.declared.Out.TheVariants.{At, Bad}
-use Rattle.readers.proofs.Laws.{suc_of, on_more, moved_at_law, moved_bad, bind_at, bind_bad}
+use Rattle.readers.specs.Meets.{Out, On, Went, Agrees, read, fault, Met}
+use Rattle.std.specs.Prelude.{Ok, Err}
+use Rattle.readers.specs.declared.Misfit.{Misfit}
+use Rattle.readers.proofs.Laws.{suc_of, on_more, bind_ok, bind_err}
 use Rattle.readers.proofs.Spells.{word, on_miss}
 
 -- ---- the tape
@@ -94,23 +94,23 @@ module _ {A T : Type 0} (fl : T → List ℕ) (test : Word → Option A) (item :
 
 module _ {A T : Type 0} {fl : T → List ℕ} {test : Word → Option A} {item : List (List ℕ) → ℕ → A → List Word → Res T} {w : List ℕ} {x₀ m₀ x m : ℕ} {t₀ t : List ℕ} (v : Listed fl test item w x₀ m₀ t₀ x m t) where
   -- a turn
-  pub list_more : {a : List ℕ → A} {y n : ℕ} {t₁ : List ℕ} {o : Out} → Begins test w x a → o ≡ At y n → IsItem fl test item w a x m t o t₁ → Listed fl test item w x₀ m₀ t₀ y n t₁
-  list_more b e i = let u = moved_at_law e i.moved in record {
+  pub list_more : {a : List ℕ → A} {y n : ℕ} {t₁ : List ℕ} → Begins test w x a → IsItem fl test item w a x m t (Ok (y, n)) t₁ → Listed fl test item w x₀ m₀ t₀ y n t₁
+  list_more b i = let u = i.moved.to in record {
     went = omega (arith, v.went, u);
     goes = λ M r t' k. v.goes M r t' (λ f h. rw (suc_of f (omega (arith, v.went))) (rw (many_begins M (item _) (f - 1) b)
-        (bind_at _ _ e (i.agrees M (f - 1) (omega (arith, v.went))) (λ a on. on_first fl a on (k (f - 1) (omega (arith, u)))))));
+        (bind_ok _ _ (i.agrees M (f - 1) (omega (arith, v.went))) (λ a on. on_first fl a on (k (f - 1) (omega (arith, u)))))));
   }
 
   -- an item that does not fit
-  pub list_fault : {a : List ℕ → A} {j : ℕ} {t₁ : List ℕ} {o : Out} → Begins test w x a → o ≡ Bad j → IsItem fl test item w a x m t o t₁ → IsList fl test item w x₀ m₀ t₀ (Bad j) t₁
-  list_fault b e i = record {
-    moved = record { to = moved_bad e i.moved };
+  pub list_fault : {a : List ℕ → A} {e : Misfit} {t₁ : List ℕ} → Begins test w x a → IsItem fl test item w a x m t (Err e) t₁ → IsList fl test item w x₀ m₀ t₀ (Err e) t₁
+  list_fault b i = record {
+    moved = record { to = i.moved.to };
     agrees = λ M f h. v.goes M _ _ (λ f h. rw (suc_of f (omega (arith, v.went))) (rw (many_begins M (item _) (f - 1) b)
-        (bind_bad _ _ e (i.agrees M (f - 1) (omega (arith, v.went)))))) f h;
+        (bind_err _ _ (i.agrees M (f - 1) (omega (arith, v.went)))))) f h;
   }
 
   -- no item is left
-  pub list_ends : Misses test w x → IsList fl test item w x₀ m₀ t₀ (At x m) t
+  pub list_ends : Misses test w x → IsList fl test item w x₀ m₀ t₀ (Ok (x, m)) t
   unfolding flats
   list_ends b = record {
     moved = record { to = v.went };

@@ -16,10 +16,10 @@ use Rattle.language.specs.Reader.{Res, bad, on, is, is_num, is_name, is_digits, 
 use Rattle.signs.specs.Kinds.{spelled_words}
 use Rattle.words.specs.Table.{word_of, word_at}
 use Rattle.readers.specs.Marks.{count, kind_at, place_at, long_at, value_at, name_at, spelled_at, Marked, fixed_of, the_type, is_type, the_p, is_p}
-use Rattle.readers.specs.Meets.{On, Went, Stopped, Moved, Agrees, fault, Closes, closes, missing, faulty}
-use Rattle.readers.proofs.Laws.{moved_at_law, moved_bad, bind_at, bind_bad}
-use Rattle.readers.specs.declared.Out.{Out}
-use Rattle.readers.specs.declared.Out.TheVariants.{At, Bad}
+use Rattle.std.specs.Prelude.{Ok, Err}
+use Rattle.readers.specs.Meets.{Out, On, Went, Moved, Agrees, fault, Finds, Lacks}
+use Rattle.readers.proofs.Laws.{bind_ok, bind_err}
+use Rattle.readers.specs.declared.Misfit.{Misfit}
 
 -- ---- a test of every kind that antt computes
 
@@ -205,26 +205,26 @@ module _ {text : List ℕ} {ms : List (List ℕ)} {w : List ℕ} {ws : List Word
 
 -- ---- the names `type` and `p`: a name that is spelled so has the value a or b
 
-abbrev marked : ℕ → ℕ → List ℕ → ℕ → Bool
-marked a b w x = eqb (kind_at w x) 2 && (eqb (value_at w x) a || eqb (value_at w x) b)
+abbrev spelled_as : ℕ → ℕ → List ℕ → ℕ → Bool
+spelled_as a b w x = eqb (kind_at w x) 2 && (eqb (value_at w x) a || eqb (value_at w x) b)
 
 module _ (a b : ℕ) (w : List ℕ) (x : ℕ) where
-  mark_two : kind_at w x ≡ 2 → marked a b w x ≡ (eqb (value_at w x) a || eqb (value_at w x) b)
+  mark_two : kind_at w x ≡ 2 → spelled_as a b w x ≡ (eqb (value_at w x) a || eqb (value_at w x) b)
   mark_two e = simp (eq-eqb _ _ e)
 
-  pub mark_none : (kind_at w x ≡ 2 → ⊥) → false ≡ marked a b w x
+  pub mark_none : (kind_at w x ≡ 2 → ⊥) → false ≡ spelled_as a b w x
   mark_none e = simp (ne_eqb _ _ e)
 
-  pub mark_yes : (v : ℕ) → kind_at w x ≡ 2 → v ≡ value_at w x → v ≡ a → eqb v a ≡ marked a b w x
+  pub mark_yes : (v : ℕ) → kind_at w x ≡ 2 → v ≡ value_at w x → v ≡ a → eqb v a ≡ spelled_as a b w x
   mark_yes v k e q = eq-eqb v a q ∙ sym (mark_two k ∙ simp (eq-eqb (value_at w x) a (sym e ∙ q)))
 
-  pub mark_no : (v : ℕ) → kind_at w x ≡ 2 → v ≡ value_at w x → (v ≡ a → ⊥) → eqb v b ≡ marked a b w x
+  pub mark_no : (v : ℕ) → kind_at w x ≡ 2 → v ≡ value_at w x → (v ≡ a → ⊥) → eqb v b ≡ spelled_as a b w x
   mark_no v k e q = ap (λ (v : ℕ). eqb v b) e ∙ sym (mark_two k ∙ simp (ne_eqb (value_at w x) a (λ z. q (e ∙ z))))
 
-  mark_kind : marked a b w x ≡ true → kind_at w x ≡ 2
+  mark_kind : spelled_as a b w x ≡ true → kind_at w x ≡ 2
   mark_kind e = eqb-true _ _ (and_left _ _ e)
 
-  mark_inside : marked a b w x ≡ true → x < count w
+  mark_inside : spelled_as a b w x ≡ true → x < count w
   mark_inside e = kind_inside w x 2 (omega arith) (mark_kind e)
 
 the_miss : (s : String) (text : List ℕ) (p l v k : ℕ) → (k ≡ 2 → ⊥) → is_the s (word_of text k p l v) ≡ none
@@ -247,15 +247,15 @@ module _ {S : Type 0} (v : String) (n : Name) (r : List Word) (g : ℕ → List 
 module _ {text : List ℕ} {ms : List (List ℕ)} {w : List ℕ} {ws : List Word} (M : Marked text ms w ws) (v : String) (a b : ℕ)
     (spelled : (i : ℕ) → i < count w → get_or w (4 * i) 0 ≡ 2 → same (bytes v) (spelled_at text w i) ≡ (eqb (value_at w i) a || eqb (value_at w i) b))
     {S : Type 0} (x : ℕ) (g : ℕ → List Word → Res S) (d : List Word → Res S) where
-  mark_same : kind_at w x ≡ 2 → same (bytes v) (spelled_at text w x) ≡ marked a b w x
+  mark_same : kind_at w x ≡ 2 → same (bytes v) (spelled_at text w x) ≡ spelled_as a b w x
   mark_same k = let i = kind_inside w x 2 (omega arith) k in spelled x i (sym (kind_is w x i) ∙ k) ∙ sym (mark_two a b w x k)
 
-  on_the : marked a b w x ≡ true → on (is_the v) (drop x ws) g d ≡ g (place_at w x) (drop (x + 1) ws)
+  on_the : spelled_as a b w x ≡ true → on (is_the v) (drop x ws) g d ≡ g (place_at w x) (drop (x + 1) ws)
   unfolding word_of
   on_the e = let k = mark_kind a b w x e in
       ap (λ (l : List Word). on (is_the v) l g d) (word M x 2 (omega arith) k) ∙ the_hit v (name_at text w x) _ g d (mark_same k ∙ e)
 
-  off_the : marked a b w x ≡ false → on (is_the v) (drop x ws) g d ≡ d (drop x ws)
+  off_the : spelled_as a b w x ≡ false → on (is_the v) (drop x ws) g d ≡ d (drop x ws)
   unfolding word_of
   off_the e = go (eqb (kind_at w x) 2) refl
     where
@@ -292,69 +292,39 @@ module _ {text : List ℕ} {ms : List (List ℕ)} {w : List ℕ} {ws : List Word
   unfolding the_p is_p
   off_p e = off_the M "p" 1 5 M.the_p_law x g d e
 
--- ---- what a reader answered, and then a fixed word
-
-module _ {A B : Type 0} {fl : A → List ℕ} {fl' : B → List ℕ} {text : List ℕ} {ms : List (List ℕ)} {w : List ℕ} {ws : List Word} (M : Marked text ms w ws) {s : String} {j : ℕ} (sp : Spells s j) where
-  pub until_at : (u : Res A) (g : A → ℕ → List Word → Res B) {n b y m : ℕ} {t t₁ s₀ t' : List ℕ} {o c r : Out}
-      → c ≡ At y m → Closes w j o c → Agrees fl ws n t u o t₁ → ((e : A) (p : ℕ) → On t n (fl e) m t₁ → Agrees fl' ws b s₀ (g e p (drop y ws)) r t') → Agrees fl' ws b s₀ (until u s g) r t'
-  unfolding until
-  until_at u g {n} {b} {y} {m} {t} {t₁} {s₀} {t'} {o} {c} {r} q h a k = go (subst (λ (c : Out). Closes w j o c) q h) a k
-    where
-      go : {o : Out} {y m : ℕ} → Closes w j o (At y m) → Agrees fl ws n t u o t₁ → ((e : A) (p : ℕ) → On t n (fl e) m t₁ → Agrees fl' ws b s₀ (g e p (drop y ws)) r t') → Agrees fl' ws b s₀ (until u s g) r t'
-      go (closes {x = x} e q) a k = bind_at u _ refl a (λ v on. rw (expect_at M s j x sp _ (λ p y. g v p y) e q) (k v _ on))
-
-  pub until_bad : (u : Res A) (g : A → ℕ → List Word → Res B) {n b i : ℕ} {t t₁ s₀ t' : List ℕ} {o c : Out}
-      → c ≡ Bad i → Closes w j o c → Agrees fl ws n t u o t₁ → Agrees fl' ws b s₀ (until u s g) (Bad i) t'
-  unfolding until
-  until_bad u g {n} {b} {i} {t} {t₁} {s₀} {t'} {o} {c} q h a = go (subst (λ (c : Out). Closes w j o c) q h) a
-    where
-      go : {o : Out} {i : ℕ} → Closes w j o (Bad i) → Agrees fl ws n t u o t₁ → Agrees fl' ws b s₀ (until u s g) (Bad i) t'
-      go (missing {x = x} e) a = bind_at u _ refl a (λ v on. rw (expect_bad M s j x sp (λ p y. g v p y) e) fault)
-      go faulty a = bind_bad u _ refl a
+-- ---- a fixed word that `expect` looks for
 
 -- where it lies
-pub closed_at : {w : List ℕ} {j at n y m : ℕ} {o c : Out} → 1 ≤ j → c ≡ At y m → Closes w j o c → Moved (count w) at n o → Went (count w) (at + 1) n y m
-closed_at {w} {j} {at} {n} {o} {c} h q z v = go (subst (λ (c : Out). Closes w j o c) q z) v
+pub found_at : {w : List ℕ} {at kw x : ℕ} → 1 ≤ kw → Finds w at kw x → x ≤ count w
+found_at {w} {at} {kw} h f = put f (kind_inside w at kw h f.kind)
   where
-    put : {x y m : ℕ} → x < count w → y ≡ x + 1 → Went (count w) at n x m → Went (count w) (at + 1) n y m
-    put i e v = omega arith
+    put : {x : ℕ} → Finds w at kw x → at < count w → x ≤ count w
+    put f i = omega arith
 
-    go : {o : Out} {y m : ℕ} → Closes w j o (At y m) → Moved (count w) at n o → Went (count w) (at + 1) n y m
-    go (closes {x = x} e q) v = put (kind_inside w x j h e) q (moved_at_law refl v)
+module _ {text : List ℕ} {ms : List (List ℕ)} {w : List ℕ} {ws : List Word} (M : Marked text ms w ws) where
+  pub word_found : (x k : ℕ) {y : ℕ} → 1 ≤ k → Finds w x k y → drop x ws ≡ word_of text k (place_at w x) (long_at w x) (value_at w x) ∷ drop y ws
+  word_found x k h f = word M x k h f.kind ∙ ap (λ (y : ℕ). word_of text k (place_at w x) (long_at w x) (value_at w x) ∷ drop y ws) (sym f.next)
 
-pub closed_bad : {w : List ℕ} {j at n i : ℕ} {o c : Out} → c ≡ Bad i → Closes w j o c → Moved (count w) at n o → Stopped (count w) i
-closed_bad {w} {j} {at} {n} {o} {c} q z v = go (subst (λ (c : Out). Closes w j o c) q z) v
-  where
-    put : {x m : ℕ} → Went (count w) at n x m → Stopped (count w) x
-    put v = omega arith
+module _ {text : List ℕ} {ms : List (List ℕ)} {w : List ℕ} {ws : List Word} (M : Marked text ms w ws) {s : String} {j : ℕ} (sp : Spells s j) where
+  pub on_found : {S : Type 0} {x y : ℕ} (g : ℕ → List Word → Res S) (d : List Word → Res S) → Finds w x j y → on (is s) (drop x ws) g d ≡ g (place_at w x) (drop y ws)
+  on_found {x = x} g d f = on_is M s j x sp g d f.kind ∙ ap (λ (y : ℕ). g (place_at w x) (drop y ws)) (sym f.next)
 
-    go : {o : Out} {i : ℕ} → Closes w j o (Bad i) → Moved (count w) at n o → Stopped (count w) i
-    go (missing e) v = put (moved_at_law refl v)
-    go faulty v = moved_bad refl v
+  pub expect_found : {S : Type 0} {x y : ℕ} (g : ℕ → List Word → Res S) → Finds w x j y → expect s (drop x ws) g ≡ g (place_at w x) (drop y ws)
+  expect_found {x = x} {y = y} g f = expect_at M s j x sp y g f.kind f.next
 
-pub closed_moved : {w : List ℕ} {j at n : ℕ} {o c : Out} → 1 ≤ j → Closes w j o c → Moved (count w) at n o → Moved (count w) (at + 1) n c
-closed_moved {w} {j} {at} {n} h z v = go z v
-  where
-    go : {o c : Out} → Closes w j o c → Moved (count w) at n o → Moved (count w) (at + 1) n c
-    go (closes e q) v = record { to = closed_at h refl (closes e q) v }
-    go (missing e) v = record { to = closed_bad refl (missing e) v }
-    go faulty v = record { to = moved_bad refl v }
+  pub expect_missed : {B : Type 0} {fl : B → List ℕ} {x n : ℕ} {e : Misfit} {t t' : List ℕ} (g : ℕ → List Word → Res B) → Lacks w x j e.at → Agrees fl ws n t (expect s (drop x ws) g) (Err e) t'
+  expect_missed {x = x} g f = rw (expect_bad M s j x sp g f.kind, ← f.stays) fault
 
--- two fixed words
-module _ {A B : Type 0} {fl : A → List ℕ} {fl' : B → List ℕ} {text : List ℕ} {ms : List (List ℕ)} {w : List ℕ} {ws : List Word} (M : Marked text ms w ws) {s s₂ : String} {j j₂ : ℕ} (sp : Spells s j) (sp₂ : Spells s₂ j₂) where
-  pub until2_at : (u : Res A) (g : A → List Word → Res B) {n b y m : ℕ} {t t₁ s₀ t' : List ℕ} {o c c₂ r : Out}
-      → c₂ ≡ At y m → Closes w j o c → Closes w j₂ c c₂ → Agrees fl ws n t u o t₁ → ((e : A) → On t n (fl e) m t₁ → Agrees fl' ws b s₀ (g e (drop y ws)) r t')
-      → Agrees fl' ws b s₀ (until u s (λ e p y. expect s₂ y (λ q z. g e z))) r t'
-  until2_at u g {n} {b} {y} {m} {t} {t₁} {s₀} {t'} {o} {c} {c₂} {r} q h₁ h a k = go h₁ (subst (λ (o : Out). Closes w j₂ c o) q h) a k
-    where
-      go : {c : Out} {y m : ℕ} → Closes w j o c → Closes w j₂ c (At y m) → Agrees fl ws n t u o t₁ → ((e : A) → On t n (fl e) m t₁ → Agrees fl' ws b s₀ (g e (drop y ws)) r t')
-          → Agrees fl' ws b s₀ (until u s (λ e p y. expect s₂ y (λ q z. g e z))) r t'
-      go z (closes {x = x} {y = y} e q) a k = until_at M sp u _ refl z a (λ v p on. rw (expect_at M s₂ j₂ x sp₂ y (λ q z. g v z) e q) (k v on))
+  -- what a reader reads, and then the word
+  module _ {A B : Type 0} {fl : A → List ℕ} {fl' : B → List ℕ} (u : Res A) (g : A → ℕ → List Word → Res B) {n b : ℕ} {t t₁ s₀ t' : List ℕ} where
+    pub until_ok : {x y m : ℕ} {r : Out} → Agrees fl ws n t u (Ok (x, m)) t₁ → Finds w x j y → ((e : A) (p : ℕ) → On t n (fl e) m t₁ → Agrees fl' ws b s₀ (g e p (drop y ws)) r t') → Agrees fl' ws b s₀ (until u s g) r t'
+    unfolding until
+    until_ok a f k = bind_ok u _ a (λ v on. rw (expect_found (λ p y. g v p y) f) (k v _ on))
 
-  pub until2_bad : (u : Res A) (g : A → List Word → Res B) {n b i : ℕ} {t t₁ s₀ t' : List ℕ} {o c c₂ : Out}
-      → c₂ ≡ Bad i → Closes w j o c → Closes w j₂ c c₂ → Agrees fl ws n t u o t₁ → Agrees fl' ws b s₀ (until u s (λ e p y. expect s₂ y (λ q z. g e z))) (Bad i) t'
-  until2_bad u g {n} {b} {i} {t} {t₁} {s₀} {t'} {o} {c} {c₂} q h₁ h a = go h₁ (subst (λ (o : Out). Closes w j₂ c o) q h) a
-    where
-      go : {c : Out} {i : ℕ} → Closes w j o c → Closes w j₂ c (Bad i) → Agrees fl ws n t u o t₁ → Agrees fl' ws b s₀ (until u s (λ e p y. expect s₂ y (λ q z. g e z))) (Bad i) t'
-      go z (missing {x = x} e) a = until_at M sp u _ refl z a (λ v p on. rw (expect_bad M s₂ j₂ x sp₂ (λ q z. g v z) e) fault)
-      go z faulty a = until_bad M sp u _ refl z a
+    pub until_missed : {x m : ℕ} {e : Misfit} → Agrees fl ws n t u (Ok (x, m)) t₁ → Lacks w x j e.at → Agrees fl' ws b s₀ (until u s g) (Err e) t'
+    unfolding until
+    until_missed a f = bind_ok u _ a (λ v on. expect_missed (λ p y. g v p y) f)
+
+    pub until_err : {e : Misfit} → Agrees fl ws n t u (Err e) t₁ → Agrees fl' ws b s₀ (until u s g) (Err e) t'
+    unfolding until
+    until_err a = bind_err u _ a

@@ -1,11 +1,13 @@
 -- A rule of a table, proved at all of its entries by one test that antt computes, one entry after the other.
 -- Assumes nothing.
-use mathlib.Core.Path.{◌∙◌, subst, sym}
+use mathlib.Core.Path.{◌≡◌, refl, ◌∙◌, subst, sym}
 use mathlib.Core.Bool.{Bool, true, false}
 use mathlib.Core.List.{List, [], ◌∷◌}
-use Prim.Native.Nat.{ℕ, zero, suc, ◌+◌, ◌<◌}
+use Prim.Native.Nat.{ℕ, zero, suc, ◌+◌, ◌-◌, ◌≤◌, ◌<◌}
 use native.Mathlib.Nat.{add-zero, zero-add, add-suc, suc-add, le_of_suc-le-suc, not-suc-le-zero}
-use lib.Dec.{T}
+use lib.Dec.{T, eqb, leb, ltb, eqb→eq, leb→le}
+use borrow.Author.Tests.{ltb-true, ltb-false}
+use Rattle.readers.specs.Marks.{figure_of}
 use lib.ListN.{length, get_or}
 
 abbrev pub both : Bool → Bool → Bool
@@ -34,3 +36,15 @@ from f (x ∷ xs) i t (suc k) h =
 
 pub at : (f : ℕ → ℕ → Bool) (xs : List ℕ) → T (every f 0 xs) → (k : ℕ) → k < length xs → T (f k (get_or xs k 0))
 at f xs t k h = subst (λ (m : ℕ). T (f m (get_or xs k 0))) (zero-add k) (from f xs 0 t k h)
+
+-- what a table has for a kind, where it is a law at each entry, and past it
+pub figure_law : (table : List ℕ) (base past : ℕ) (law : ℕ → ℕ) → 65 ≡ length table → T (every (λ k x. eqb (x - base) (law k)) 0 table) → ((k : ℕ) → 65 ≤ k → past ≡ law k) → (k : ℕ) → figure_of table base past k ≡ law k
+figure_law table base past law size t beyond k = go (ltb k 65) refl
+  where
+    go : (b : Bool) → ltb k 65 ≡ b → elim b [ true ↦ get_or table k 0 - base | false ↦ past ] ≡ law k
+    go true q = eqb→eq _ _ (at (λ k x. eqb (x - base) (law k)) table t k (subst (λ (n : ℕ). k < n) size (ltb-true k 65 q)))
+    go false q = beyond k (ltb-false k 65 q)
+
+-- each entry is at least so much
+pub at_least : (base : ℕ) (table : List ℕ) → T (every (λ k x. leb base x) 0 table) → (k : ℕ) → k < length table → base ≤ get_or table k 0
+at_least base table t k h = leb→le base _ (at (λ k x. leb base x) table t k h)

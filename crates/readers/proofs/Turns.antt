@@ -5,8 +5,7 @@ use lib.ListN.{drop}
 use Rattle.language.specs.Words.{Word}
 use Rattle.language.specs.Reader.{Res}
 use Rattle.readers.specs.Marks.{count, Marked}
-use Rattle.readers.specs.Meets.{On, Went, Agrees}
-use Rattle.readers.specs.declared.Out.{Out}
+use Rattle.readers.specs.Meets.{Out, On, Went, Agrees}
 
 module _ {A : Type 0} (fl : A → List ℕ) (p : List (List ℕ) → ℕ → A → List Word → Res A) (w : List ℕ) where
   -- r and t' answer what follows any tree that is on the tape up to m, from the word x on

@@ -1,5 +1,5 @@
 -- The words as the readers hold them: the table of `words` with the number of words behind it, and each name marked with what the readers ask of it. Assumes nothing: these are definitions.
-use Rattle.std.specs.Prelude.{◌≡◌, refl, Bool, true, false, ◌&&◌, ◌||◌, List, ◌∷◌, ℕ, zero, suc, ◌+◌, ◌*◌, ◌<◌, eqb, leb, ltb, length, get_or, take, drop}
+use Rattle.std.specs.Prelude.{◌≡◌, refl, Bool, true, false, ◌&&◌, ◌||◌, List, ◌∷◌, ℕ, zero, suc, ◌+◌, ◌*◌, ◌-◌, ◌<◌, eqb, leb, ltb, length, get_or, take, drop}
 use Rattle.std.proofs.Math.Option.{Option, none, some}
 use Prim.Native.String.{String}
 use Rattle.language.specs.Limits.{limits}
@@ -99,9 +99,17 @@ binary_in (some o) = binary_number o.which
 unfoldable pub binary_of : ℕ → ℕ
 binary_of k = binary_in (operator_in operators (fixed_of k))
 
+-- a name with a mark, among the memories or not
+unfoldable pub marked : ℕ → List ℕ → ℕ → Bool
+marked m w i = eqb (kind_at w i) 2 && (eqb (value_at w i) m || eqb (value_at w i) (m + 4))
+
 -- the name `type` at an index, and `p`
 unfoldable pub the_type : List ℕ → ℕ → Bool
 the_type w i = eqb (kind_at w i) 2 && is_type (value_at w i)
 
 unfoldable pub the_p : List ℕ → ℕ → Bool
 the_p w i = eqb (kind_at w i) 2 && is_p (value_at w i)
+
+-- what a table has for a kind
+abbrev pub figure_of : List ℕ → ℕ → ℕ → ℕ → ℕ
+figure_of table base past k = elim (ltb k 65) [ true ↦ get_or table k 0 - base | false ↦ past ]

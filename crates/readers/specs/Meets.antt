@@ -1,13 +1,16 @@
 -- What the contracts say of an answer and of the tape. Assumes nothing: these are definitions.
-use Rattle.std.specs.Prelude.{◌≡◌, Bool, List, ℕ, ◌+◌, ◌*◌, ◌-◌, ◌≤◌, ◌<◌, length, drop}
+use Rattle.std.specs.Prelude.{◌≡◌, Result, Ok, Err, Bool, List, ℕ, ◌+◌, ◌*◌, ◌-◌, ◌≤◌, ◌<◌, length, drop}
 use Rattle.std.proofs.lemmas.List.Edits.{sets}
 use Rattle.tape.specs.Tape.{longest, most_items}
 use Rattle.language.specs.Words.{Word}
 use Rattle.language.specs.Reader.{Res, ok, bad}
 use Rattle.language.specs.Parser.{arm_ends}
 use Rattle.readers.specs.Marks.{count, kind_at, Marked, level_of}
-use Rattle.readers.specs.declared.Out.{Out}
-use Rattle.readers.specs.declared.Out.TheVariants.{At, Bad}
+use Rattle.readers.specs.declared.Misfit.{Misfit}
+
+-- where a reader came to: the next word and the length of the tape, or the first word that does not fit
+abbrev pub Out : Type 0
+Out = Result (ℕ × ℕ) Misfit
 
 -- a word to look at, or the end
 pub record Inside (w : List ℕ) (at : ℕ) : Type 0 where
@@ -63,30 +66,30 @@ pub record Stopped (len i : ℕ) : Type 0 where
   pub inside : i ≤ len
 
 abbrev pub MovedTo : ℕ → ℕ → ℕ → Out → Type 0
-MovedTo len at n (At x m) = Went len at n x m
-MovedTo len at n (Bad i) = Stopped len i
+MovedTo len at n (Ok (x, m)) = Went len at n x m
+MovedTo len at n (Err e) = Stopped len e.at
 
 pub record Moved (len at n : ℕ) (o : Out) : Type 0 where
   pub to : MovedTo len at n o
 
 -- the answer and the tape t' are those of the reader of lists, with what it read from n on; of a fault's tape nothing is said
 pub data Agrees {A : Type 0} (fl : A → List ℕ) (ws : List Word) (n : ℕ) (t : List ℕ) : Res A → Out → List ℕ → Type 0 where
-  read : {e : A} {x m : ℕ} {t' : List ℕ} → On t n (fl e) m t' → Agrees fl ws n t (ok e (drop x ws)) (At x m) t'
-  fault : {i : ℕ} {t' : List ℕ} → Agrees fl ws n t (bad (drop i ws)) (Bad i) t'
+  read : {e : A} {x m : ℕ} {t' : List ℕ} → On t n (fl e) m t' → Agrees fl ws n t (ok e (drop x ws)) (Ok (x, m)) t'
+  fault : {e : Misfit} {t' : List ℕ} → Agrees fl ws n t (bad (drop e.at ws)) (Err e) t'
 
--- a word of the kind kw after what a reader answered
-pub data Closes (w : List ℕ) (kw : ℕ) : Out → Out → Type 0 where
-  closes : {x y m : ℕ} → kind_at w x ≡ kw → y ≡ x + 1 → Closes w kw (At x m) (At y m)
-  missing : {x m : ℕ} → (kind_at w x ≡ kw → ⊥) → Closes w kw (At x m) (Bad x)
-  faulty : {i : ℕ} → Closes w kw (Bad i) (Bad i)
+-- a word of the kind kw at an index, and the index after it
+pub record Finds (w : List ℕ) (at kw x : ℕ) : Type 0 where
+  pub kind : kind_at w at ≡ kw
+  pub next : x ≡ at + 1
 
--- an answer that a word may follow
-abbrev pub StandsAt : List ℕ → Out → Type 0
-StandsAt w (At x m) = Inside w x
-StandsAt w (Bad i) = Unit {0}
+-- a word of another kind, or none
+pub record Lacks (w : List ℕ) (at kw i : ℕ) : Type 0 where
+  pub kind : kind_at w at ≡ kw → ⊥
+  pub stays : i ≡ at
 
-pub record WordStands (w : List ℕ) (o : Out) : Type 0 where
-  pub to : StandsAt w o
+abbrev pub Expects : List ℕ → ℕ → ℕ → Result ℕ Misfit → Type 0
+Expects w at kw (Ok x) = Finds w at kw x
+Expects w at kw (Err e) = Lacks w at kw e.at
 
 -- a reader p of lists, given enough fuel: more than its measure, 8 for each word that is left and its rank
 pub record Met {A : Type 0} (fl : A → List ℕ) (rank : ℕ) (p : List ℕ → List (List ℕ) → List Word → ℕ → Res A) (w : List ℕ) (at n : ℕ) (t : List ℕ) (r : Out) (t' : List ℕ) : Type 0 where

@@ -25,9 +25,8 @@ pub fn put(words: &Table, tape: &mut Tape, at: usize, n: usize, op: u32, v: u32)
     requires within { Within words.now at }
     ensures { On tape.old n (op ∷ place_at words.now at ∷ v ∷ []) result tape.new }
 {
-    let p = place(words, at);
     tape[n] = op;
-    tape[n + 1] = p;
+    tape[n + 1] = place(words, at);
     tape[n + 2] = v;
     n + 3
 }
@@ -38,8 +37,7 @@ pub fn unary_item(words: &Table, tape: &mut Tape, at: usize, n: usize, k: u32) -
     requires within { Within words.now at }
     ensures { On tape.old n (item UNARY (place_at words.now at) (unary_of k)) result tape.new }
 {
-    let number = unary_number(k);
-    put(words, tape, at, n, UNARY, number)
+    put(words, tape, at, n, UNARY, unary_number(k))
 }
 
 // The item of an operator between two operands, by the kind of its word.
@@ -47,6 +45,5 @@ pub fn binary_item(tape: &mut Tape, n: usize, k: u32) -> usize
     requires { n + 3 ≤ longest }
     ensures { On tape.old n (item BINARY 0 (binary_of k)) result tape.new }
 {
-    let number = binary_number(k);
-    emit(tape, n, BINARY, number)
+    emit(tape, n, BINARY, binary_number(k))
 }

@@ -8,7 +8,7 @@ mod look;
 
 pub use items::{binary_item, emit, put, unary_item};
 pub use look::{
-    arm_ends, closed, kind, level, long, memory, place, prefix, sum, the_p, the_type, value, wide,
+    arm_ends, expect, kind, level, long, memory, place, prefix, sum, the_p, the_type, value,
 };
 
 // The words, four numbers each and at most one for each byte of the text, and behind them how many there are.
@@ -29,11 +29,11 @@ pub const IS_MEMORY: u32 = 4;
 // All operators have a level below this one.
 pub const LOOSEST: u32 = 9;
 
-// Where a reader came to.
+// The index of the first word that does not fit.
 #[derive(Clone, Copy)]
-pub enum Out {
-    // The next word is at the first number, and the tape is as long as the second.
-    At(usize, usize),
-    // The index of the first word that does not fit.
-    Bad(usize),
+pub struct Misfit {
+    pub at: usize,
 }
+
+// Where a reader came to: the index of the next word, and how long the tape is.
+pub type Out = Result<(usize, usize), Misfit>;

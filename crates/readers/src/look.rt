@@ -1,32 +1,22 @@
 // What the readers look at: a word's kind and numbers, marks of names, operators.
-ghost use Rattle.std.specs.Prelude.{◌≡◌, ◌+◌, ◌<◌};
-ghost use Rattle.signs.specs.Kinds.{kinds_end};
-ghost use Rattle.readers.specs.Marks.{place_at, long_at, value_at, is_mark, unary_of, binary_of, is_memory, the_p, the_type};
-ghost use Rattle.tape.specs.Tape.{one_if};
-ghost use Rattle.readers.specs.Meets.{Inside, Sum, Within, Kind, Level, WordStands, Closes, Ends};
+ghost use Rattle.std.specs.Prelude.{◌≡◌, ◌<◌, ◌≤◌, EachIndex, slice_index};
+ghost use Rattle.readers.specs.Marks.{place_at, long_at, value_at, is_mark, unary_of, binary_of, is_memory, the_p, the_type, marked, figure_of};
+ghost use Rattle.readers.specs.Meets.{Inside, Sum, Within, Kind, Level, Expects, Ends};
 
-use crate::{COUNT, IS_MEMORY, IS_P, IS_TYPE, LOOSEST, Out, Table};
+use crate::{COUNT, IS_MEMORY, IS_P, IS_TYPE, LOOSEST, Misfit, Table};
 use signs::kinds;
 use tape::{MINUS, PLUS};
-
-// The marks of a memory that is spelled `p`, and `type`.
-const P_MEMORY: u32 = IS_P + IS_MEMORY;
-
-const TYPE_MEMORY: u32 = IS_TYPE + IS_MEMORY;
-
-pub fn wide(x: u32) -> usize
-    ensures { result ≡ x }
-{
-    x as usize
-}
 
 // The kind of the word at an index, and 0 past the end.
 pub fn kind(words: &Table, at: usize) -> u32
     requires { Inside words.now at }
     ensures { Kind words.now at result }
 {
-    let many = wide(words[COUNT]);
-    if at < many { words[4 * at] } else { 0 }
+    if at < words[COUNT] as usize {
+        words[4 * at]
+    } else {
+        0
+    }
 }
 
 pub fn place(words: &Table, at: usize) -> u32
@@ -55,8 +45,20 @@ pub fn memory(words: &Table, at: usize) -> bool
     requires { Within words.now at }
     ensures { result ≡ is_memory (value_at words.now at) }
 {
+    value(words, at) >= IS_MEMORY
+}
+
+// Whether a name with a mark stands at an index, among the memories or not.
+fn marked(words: &Table, at: usize, mark: u32) -> bool
+    requires inside { Inside words.now at }
+    requires small { mark < 4 }
+    ensures { result ≡ marked mark words.now at }
+{
+    if kind(words, at) != kinds::NAME {
+        return false;
+    }
     let v = value(words, at);
-    IS_MEMORY <= v
+    v == mark || v == mark + IS_MEMORY
 }
 
 // Whether the name `type` stands at an index.
@@ -64,13 +66,7 @@ pub fn the_type(words: &Table, at: usize) -> bool
     requires { Inside words.now at }
     ensures { result ≡ the_type words.now at }
 {
-    let k = kind(words, at);
-    if k == kinds::NAME {
-        let v = value(words, at);
-        v == IS_TYPE || v == TYPE_MEMORY
-    } else {
-        false
-    }
+    marked(words, at, IS_TYPE)
 }
 
 // Whether the name `p` stands at an index.
@@ -78,13 +74,7 @@ pub fn the_p(words: &Table, at: usize) -> bool
     requires { Inside words.now at }
     ensures { result ≡ the_p words.now at }
 {
-    let k = kind(words, at);
-    if k == kinds::NAME {
-        let v = value(words, at);
-        v == IS_P || v == P_MEMORY
-    } else {
-        false
-    }
+    marked(words, at, IS_P)
 }
 
 // The operation of `+` and of `-` in a type, and 0 for any other word.
@@ -98,26 +88,33 @@ pub fn sum(k: u32) -> u32
     }
 }
 
-// What a reader answered, and then a word of the kind kw.
-pub fn closed(words: &Table, o: Out, kw: u32) -> Out
-    requires { WordStands words.now o }
-    ensures { Closes words.now kw o result }
+// The index after a word of the kind kw.
+pub fn expect(words: &Table, at: usize, kw: u32) -> Result<usize, Misfit>
+    requires { Inside words.now at }
+    ensures { Expects words.now at kw result }
 {
-    match o {
-        Out::At(x, m) => {
-            let k = kind(words, x);
-            if k == kw {
-                Out::At(x + 1, m)
-            } else {
-                Out::Bad(x)
-            }
-        }
-        Out::Bad(i) => Out::Bad(i),
+    if kind(words, at) == kw {
+        Ok(at + 1)
+    } else {
+        Err(Misfit { at })
     }
 }
 
 // The kinds of words, and 0 where there is no word.
 const KINDS: usize = kinds::HASH as usize + 1;
+
+// What a table has for a kind of word, counted from the byte `base`; `past` where there is no such kind.
+fn figure(table: &[u8; KINDS], base: u8, past: u32, k: u32) -> u32
+    requires { EachIndex table.now (λ i. base ≤ slice_index table.now i) }
+    ensures { result ≡ figure_of table.now base past k }
+{
+    let i = k as usize;
+    if i < KINDS {
+        u32::from(table[i] - base)
+    } else {
+        past
+    }
+}
 
 // The level of each kind of word, a figure each: the tightest operators have 0, and what is no operator the loosest.
 const LEVELS: [u8; KINDS] = *b"99999999999999999999999994423237856599999999999933995651100099999";
@@ -125,29 +122,16 @@ const LEVELS: [u8; KINDS] = *b"9999999999999999999999999442323785659999999999993
 pub fn level(k: u32) -> u32
     ensures { Level k result }
 {
-    let i = wide(k);
-    if i < KINDS {
-        (LEVELS[i] - b'0') as u32
-    } else {
-        LOOSEST
-    }
+    figure(&LEVELS, b'0', LOOSEST, k)
 }
 
 // 1 at the operators that may stand before their operand: ~& ~| ~^ ! ~ & | ^ +
 const MARKS: [u8; KINDS] = *b"00000000000000000000000000000000011100000000000000111111000000000";
 
-fn mark(i: usize) -> u32
-    requires { i < kinds_end }
-    ensures { result ≡ one_if (is_mark i) }
-{
-    (MARKS[i] - b'0') as u32
-}
-
 pub fn prefix(k: u32) -> bool
     ensures { result ≡ is_mark k }
 {
-    let i = wide(k);
-    if i < KINDS { mark(i) == 1 } else { false }
+    figure(&MARKS, b'0', 0, k) == 1
 }
 
 // The number in the plan of each operator before its operand, a figure each; 0 where the kind is none's.
@@ -156,12 +140,7 @@ const UNARIES: [u8; KINDS] = *b"000000000000000000000000000000000468000000000000
 pub fn unary_number(k: u32) -> u32
     ensures { result ≡ unary_of k }
 {
-    let i = wide(k);
-    if i < KINDS {
-        (UNARIES[i] - b'0') as u32
-    } else {
-        0
-    }
+    figure(&UNARIES, b'0', 0, k)
 }
 
 // The same of each operator between two operands, a letter each: `a` is 0.
@@ -170,12 +149,7 @@ const BINARIES: [u8; KINDS] = *b"aaaaaaaaaaaaaaaaaaaaaaaaalmfigktuosqaaaaaaaaaaa
 pub fn binary_number(k: u32) -> u32
     ensures { result ≡ binary_of k }
 {
-    let i = wide(k);
-    if i < KINDS {
-        (BINARIES[i] - b'a') as u32
-    } else {
-        0
-    }
+    figure(&BINARIES, b'a', 0, k)
 }
 
 // Whether an arm's expression ends at a word: a `|`, then a number and `=>`, or `_`.
@@ -183,18 +157,11 @@ pub fn arm_ends(words: &Table, at: usize, arm: bool) -> bool
     requires { Inside words.now at }
     ensures { Ends words.now at arm result }
 {
-    if !arm {
+    if !arm || kind(words, at) != kinds::BAR {
         return false;
     }
-    let k = kind(words, at);
-    if k != kinds::BAR {
-        return false;
-    }
-    let label = kind(words, at + 1);
-    if label == kinds::NUMBER {
-        let arrow = kind(words, at + 2);
-        arrow == kinds::ARROW
-    } else {
-        label == kinds::DEFAULT
+    match kind(words, at + 1) {
+        kinds::NUMBER => kind(words, at + 2) == kinds::ARROW,
+        label => label == kinds::DEFAULT,
     }
 }

@@ -13,7 +13,8 @@ use Rattle.signs.specs.Kinds.{spelled_words}
 use Rattle.words.specs.Table.{word_of}
 use Rattle.readers.specs.Marks.{kind_at, place_at, long_at, numeral_at, name_at, Marked}
 use Rattle.type_reader.specs.Types.{positions_p, Valued}
-use Rattle.readers.proofs.Spells.{word, on_miss, on_is, off_is, expect_at, expect_bad, name_miss, digits_miss}
+use Rattle.readers.specs.Meets.{Finds, Lacks}
+use Rattle.readers.proofs.Spells.{word, word_found, on_found, on_miss, on_is, off_is, expect_at, expect_bad, name_miss, digits_miss}
 use Rattle.readers.proofs.Fixed.{s_value, s_brace, s_bracket, s_unbracket, s_colon}
 
 -- the digits of a constant, as the table has them
@@ -26,24 +27,20 @@ module _ {text : List ℕ} {ms : List (List ℕ)} {w : List ℕ} {ws : List Word
     unfolding amount_p on is_digits word_of
     amount_given e = ap (amount_p b) (word M x 3 (omega arith) e)
 
-    pub amount_none : (kind_at w x ≡ 3 → ⊥) → (kind_at w x ≡ 23 → ⊥) → amount_p b (drop x ws) ≡ bad (drop x ws)
+    pub amount_none : {i : ℕ} → (kind_at w x ≡ 3 → ⊥) → Lacks w x 23 i → amount_p b (drop x ws) ≡ bad (drop i ws)
     unfolding amount_p
-    amount_none h g = on_miss M is_digits _ _ x (λ p l v. digits_miss text p l v _ h) ∙ expect_bad M "'d" 23 x s_value _ g
+    amount_none h g = on_miss M is_digits _ _ x (λ p l v. digits_miss text p l v _ h) ∙ expect_bad M "'d" 23 x s_value _ g.kind ∙ ap (λ (y : ℕ). bad (drop y ws)) (sym g.stays)
 
-    value_name : kind_at w x ≡ 23 → amount_p b (drop x ws) ≡ on is_name (drop (x + 1) ws) (λ n y. ok (sized b (value n)) y) (λ r. bad r)
+    value_name : {y : ℕ} → Finds w x 23 y → amount_p b (drop x ws) ≡ on is_name (drop y ws) (λ n y. ok (sized b (value n)) y) (λ r. bad r)
     unfolding amount_p on is_digits is expect word_of spelled_words
-    value_name e = ap (amount_p b) (word M x 23 (omega arith) e)
+    value_name f = ap (amount_p b) (word_found M x 23 (omega arith) f)
 
-    pub amount_value : kind_at w x ≡ 23 → kind_at w (x + 1) ≡ 2 → amount_p b (drop x ws) ≡ ok (sized b (value (name_at text w (x + 1)))) (drop (x + 2) ws)
+    pub amount_value : {y z : ℕ} → Finds w x 23 y → Finds w y 2 z → amount_p b (drop x ws) ≡ ok (sized b (value (name_at text w y))) (drop z ws)
     unfolding on is_name word_of
-    amount_value e q = value_name e ∙ ap (λ (l : List Word). on is_name l (λ n y. ok (sized b (value n)) y) (λ r. bad r)) (word M (x + 1) 2 (omega arith) q)
-        ∙ ap (λ (y : ℕ). ok (sized b (value (name_at text w (x + 1)))) (drop y ws)) two
-      where
-        two : x + 1 + 1 ≡ x + 2
-        two = omega arith
+    amount_value {y = y} f g = value_name f ∙ ap (λ (l : List Word). on is_name l (λ n y. ok (sized b (value n)) y) (λ r. bad r)) (word_found M y 2 (omega arith) g)
 
-    pub amount_bad : kind_at w x ≡ 23 → (kind_at w (x + 1) ≡ 2 → ⊥) → amount_p b (drop x ws) ≡ bad (drop (x + 1) ws)
-    amount_bad e q = value_name e ∙ on_miss M is_name _ _ (x + 1) (λ p l v. name_miss text p l v _ q)
+    pub amount_bad : {y i : ℕ} → Finds w x 23 y → Lacks w y 2 i → amount_p b (drop x ws) ≡ bad (drop i ws)
+    amount_bad {y = y} f g = value_name f ∙ on_miss M is_name _ _ y (λ p l v. name_miss text p l v _ g.kind) ∙ ap (λ (y : ℕ). bad (drop y ws)) (sym g.stays)
 
   module _ (f x : ℕ) (e₀ : Expr) where
     pub part_more : kind_at w x ≡ 40 → part_p f e₀ (drop x ws) ≡ bind (type_p f (drop (x + 1) ws)) (λ i y. positions_p f (place_at w x) e₀ i y)
@@ -55,9 +52,9 @@ module _ {text : List ℕ} {ms : List (List ℕ)} {w : List ℕ} {ws : List Word
     part_stop h = off_is M "[" 40 x s_bracket _ _ h
 
     module _ (p : ℕ) (i : Ty) where
-      pub positions_range : kind_at w x ≡ 44 → positions_p f p e₀ i (drop x ws) ≡ until (type_p f (drop (x + 1) ws)) "]" (λ j s z. ok (range e₀ p i j) z)
+      pub positions_range : {y : ℕ} → Finds w x 44 y → positions_p f p e₀ i (drop x ws) ≡ until (type_p f (drop y ws)) "]" (λ j s z. ok (range e₀ p i j) z)
       unfolding positions_p
-      positions_range e = on_is M ":" 44 x s_colon _ _ e
+      positions_range g = on_found M s_colon _ _ g
 
       pub positions_bit : kind_at w x ≡ 41 → positions_p f p e₀ i (drop x ws) ≡ ok (bit e₀ p i) (drop (x + 1) ws)
       unfolding positions_p
@@ -66,9 +63,9 @@ module _ {text : List ℕ} {ms : List (List ℕ)} {w : List ℕ} {ws : List Word
           other : {k : ℕ} → k ≡ 44 → k ≡ 41 → ⊥
           other p q = omega arith
 
-      pub positions_none : (kind_at w x ≡ 44 → ⊥) → (kind_at w x ≡ 41 → ⊥) → positions_p f p e₀ i (drop x ws) ≡ bad (drop x ws)
+      pub positions_none : {j : ℕ} → Lacks w x 44 j → (kind_at w x ≡ 41 → ⊥) → positions_p f p e₀ i (drop x ws) ≡ bad (drop j ws)
       unfolding positions_p
-      positions_none h g = off_is M ":" 44 x s_colon _ _ h ∙ expect_bad M "]" 41 x s_unbracket _ g
+      positions_none h g = off_is M ":" 44 x s_colon _ _ h.kind ∙ expect_bad M "]" 41 x s_unbracket _ g ∙ ap (λ (y : ℕ). bad (drop y ws)) (sym h.stays)
 
   module _ (f at : ℕ) where
     pub operand_number : kind_at w at ≡ 1 → operand_p ms (suc f) (drop at ws) ≡ number_p ms f (numeral_at w at) (drop (at + 1) ws)

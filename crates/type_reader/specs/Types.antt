@@ -6,8 +6,7 @@ use Rattle.language.specs.Reader.{Res, ok, on, is, expect, until}
 use Rattle.language.specs.Parser.{type_p, type_l, term_p, entry_l, part_p, amount_p, operand_p}
 use Rattle.tape.specs.Tape.{flat_t, flat_b, flat}
 use Rattle.readers.specs.Marks.{count, kind_at, place_at, Marked}
-use Rattle.readers.specs.declared.Out.{Out}
-use Rattle.readers.specs.Meets.{On, Moved, Agrees, Met, MetOn}
+use Rattle.readers.specs.Meets.{Out, On, Moved, Agrees, Met, MetOn}
 
 -- digits, or `'d`
 pub data Valued (w : List ℕ) (x : ℕ) : Type 0 where

@@ -6,7 +6,7 @@ ghost use Rattle.readers.specs.Meets.{Room, Starts};
 ghost use Rattle.type_reader.specs.Types.{Shuts, Valued, IsOperand, IsPart, IsAmount, IsPositions};
 
 use crate::typ;
-use readers::{Out, Table, Tape, closed, kind, put, value};
+use readers::{Out, Table, Tape, expect, kind, put, value};
 use signs::kinds;
 use tape::{BIT, BITS, GIVEN, PLAIN, RANGE, TYPED, VALUE};
 
@@ -15,21 +15,12 @@ fn amount(words: &Table, tape: &mut Tape, at: usize, n: usize) -> Out
     requires { Room words.now at n }
     ensures { IsAmount words.now at n tape.old result tape.new }
 {
-    let k = kind(words, at);
-    if k == kinds::DIGITS {
-        let m = put(words, tape, at, n, GIVEN, 0);
-        return Out::At(at + 1, m);
+    if kind(words, at) == kinds::DIGITS {
+        return Ok((at + 1, put(words, tape, at, n, GIVEN, 0)));
     }
-    if k != kinds::VALUE {
-        return Out::Bad(at);
-    }
-    let name = kind(words, at + 1);
-    if name == kinds::NAME {
-        let m = put(words, tape, at + 1, n, VALUE, 0);
-        Out::At(at + 2, m)
-    } else {
-        Out::Bad(at + 1)
-    }
+    let x = expect(words, at, kinds::VALUE)?;
+    let y = expect(words, x, kinds::NAME)?;
+    Ok((y, put(words, tape, x, n, VALUE, 0)))
 }
 
 // A number that is no count of copies: the width of a constant, or a constant itself.
@@ -38,15 +29,9 @@ pub fn constant(words: &Table, tape: &mut Tape, at: usize, n: usize) -> Out
     requires fact { kind_at words.now (at + 1) ≡ brace_kind → ⊥ }
     ensures { IsOperand words.now at n tape.old result tape.new }
 {
-    let k = kind(words, at + 1);
-    match k {
-        kinds::DIGITS => width(words, tape, at, n),
-        kinds::VALUE => width(words, tape, at, n),
-        _ => {
-            let v = value(words, at);
-            let m = put(words, tape, at, n, PLAIN, v);
-            Out::At(at + 1, m)
-        }
+    match kind(words, at + 1) {
+        kinds::DIGITS | kinds::VALUE => width(words, tape, at, n),
+        _ => Ok((at + 1, put(words, tape, at, n, PLAIN, value(words, at)))),
     }
 }
 
@@ -56,8 +41,7 @@ fn width(words: &Table, tape: &mut Tape, at: usize, n: usize) -> Out
     requires valued { Valued words.now (at + 1) }
     ensures { IsOperand words.now at n tape.old result tape.new }
 {
-    let v = value(words, at);
-    let m = put(words, tape, at, n, BITS, v);
+    let m = put(words, tape, at, n, BITS, value(words, at));
     amount(words, tape, at + 1, m)
 }
 
@@ -66,14 +50,10 @@ pub fn typed(words: &Table, tape: &mut Tape, at: usize, n: usize) -> Out
     requires { Starts words.now at n less_kind }
     ensures { IsOperand words.now at n tape.old result tape.new }
 {
-    let o = typ(words, tape, at + 1, n);
-    match closed(words, o, kinds::GREATER) {
-        Out::At(x, m) => {
-            let q = put(words, tape, at, m, TYPED, 0);
-            amount(words, tape, x, q)
-        }
-        Out::Bad(i) => Out::Bad(i),
-    }
+    let (x, m) = typ(words, tape, at + 1, n)?;
+    let y = expect(words, x, kinds::GREATER)?;
+    let q = put(words, tape, at, m, TYPED, 0);
+    amount(words, tape, y, q)
 }
 
 // What follows a name or parentheses that are on the tape: bit positions, or nothing.
@@ -81,14 +61,11 @@ pub fn part(words: &Table, tape: &mut Tape, at: usize, n: usize) -> Out
     requires { Room words.now at n }
     ensures { IsPart words.now at n tape.old result tape.new }
 {
-    let k = kind(words, at);
-    if k != kinds::BRACKET {
-        return Out::At(at, n);
+    if kind(words, at) != kinds::BRACKET {
+        return Ok((at, n));
     }
-    match typ(words, tape, at + 1, n) {
-        Out::At(x, m) => positions(words, tape, at, x, m),
-        Out::Bad(i) => Out::Bad(i),
-    }
+    let (x, m) = typ(words, tape, at + 1, n)?;
+    positions(words, tape, at, x, m)
 }
 
 // What follows the first bit position: the `[` stands at `from`.
@@ -96,20 +73,11 @@ fn positions(words: &Table, tape: &mut Tape, from: usize, at: usize, n: usize) -
     requires { Shuts words.now from at n }
     ensures { IsPositions words.now from at n tape.old result tape.new }
 {
-    let k = kind(words, at);
-    if k == kinds::UNBRACKET {
-        let m = put(words, tape, from, n, BIT, 0);
-        return Out::At(at + 1, m);
+    if kind(words, at) == kinds::UNBRACKET {
+        return Ok((at + 1, put(words, tape, from, n, BIT, 0)));
     }
-    if k != kinds::COLON {
-        return Out::Bad(at);
-    }
-    let o = typ(words, tape, at + 1, n);
-    match closed(words, o, kinds::UNBRACKET) {
-        Out::At(x, m) => {
-            let q = put(words, tape, from, m, RANGE, 0);
-            Out::At(x, q)
-        }
-        Out::Bad(i) => Out::Bad(i),
-    }
+    let x = expect(words, at, kinds::COLON)?;
+    let (y, m) = typ(words, tape, x, n)?;
+    let z = expect(words, y, kinds::UNBRACKET)?;
+    Ok((z, put(words, tape, from, m, RANGE, 0)))
 }

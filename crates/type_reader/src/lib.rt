@@ -12,7 +12,7 @@ ghost use Rattle.readers.specs.Meets.{Room, Starts};
 ghost use Rattle.type_reader.specs.Types.{IsType, IsTerm, IsSums, IsEntries};
 
 pub use constants::{constant, part, typed};
-use readers::{Out, Table, Tape, closed, emit, kind, put, sum, the_type, value};
+use readers::{Misfit, Out, Table, Tape, emit, expect, kind, put, sum, the_type, value};
 use signs::kinds;
 use tape::{CEIL, ENTRY, ENVIRONMENT, FLOOR, LOG, MOST, NUMBER, PORT, WITHIN};
 
@@ -21,10 +21,8 @@ pub fn typ(words: &Table, tape: &mut Tape, at: usize, n: usize) -> Out
     requires { Room words.now at n }
     ensures { IsType words.now at n tape.old result tape.new }
 {
-    match term(words, tape, at, n) {
-        Out::At(x, m) => sums(words, tape, x, m),
-        Out::Bad(i) => Out::Bad(i),
-    }
+    let (x, m) = term(words, tape, at, n)?;
+    sums(words, tape, x, m)
 }
 
 // What follows a term that is on the tape.
@@ -33,21 +31,14 @@ fn sums(words: &Table, tape: &mut Tape, at: usize, n: usize) -> Out
     requires { Room words.now at n }
     ensures { IsSums words.now at n tape.old result tape.new }
 {
-    let mut x = at;
-    let mut m = n;
+    let (mut x, mut m) = (at, n);
     loop {
-        let k = kind(words, x);
-        let op = sum(k);
+        let op = sum(kind(words, x));
         if op == 0 {
-            return Out::At(x, m);
+            return Ok((x, m));
         }
-        match term(words, tape, x + 1, m) {
-            Out::At(y, o) => {
-                x = y;
-                m = emit(tape, o, op, 0);
-            }
-            Out::Bad(i) => return Out::Bad(i),
-        }
+        (x, m) = term(words, tape, x + 1, m)?;
+        m = emit(tape, m, op, 0);
     }
 }
 
@@ -56,8 +47,7 @@ fn term(words: &Table, tape: &mut Tape, at: usize, n: usize) -> Out
     requires { Room words.now at n }
     ensures { IsTerm words.now at n tape.old result tape.new }
 {
-    let k = kind(words, at);
-    match k {
+    match kind(words, at) {
         kinds::NUMBER => number(words, tape, at, n),
         kinds::NAME => environment(words, tape, at, n),
         kinds::MAX => most(words, tape, at, n),
@@ -65,7 +55,7 @@ fn term(words: &Table, tape: &mut Tape, at: usize, n: usize) -> Out
         kinds::CEIL => function(words, tape, at, n, CEIL),
         kinds::FLOOR => function(words, tape, at, n, FLOOR),
         kinds::OPEN => within(words, tape, at, n),
-        _ => Out::Bad(at),
+        _ => Err(Misfit { at }),
     }
 }
 
@@ -73,9 +63,7 @@ fn number(words: &Table, tape: &mut Tape, at: usize, n: usize) -> Out
     requires { Starts words.now at n number_kind }
     ensures { IsTerm words.now at n tape.old result tape.new }
 {
-    let v = value(words, at);
-    let m = put(words, tape, at, n, NUMBER, v);
-    Out::At(at + 1, m)
+    Ok((at + 1, put(words, tape, at, n, NUMBER, value(words, at))))
 }
 
 // An environment name, or a port's with `.type` after it.
@@ -83,18 +71,13 @@ fn environment(words: &Table, tape: &mut Tape, at: usize, n: usize) -> Out
     requires { Starts words.now at n name_kind }
     ensures { IsTerm words.now at n tape.old result tape.new }
 {
-    let dot = kind(words, at + 1);
-    if dot != kinds::DOT {
-        let m = put(words, tape, at, n, ENVIRONMENT, 0);
-        return Out::At(at + 1, m);
+    if kind(words, at + 1) != kinds::DOT {
+        return Ok((at + 1, put(words, tape, at, n, ENVIRONMENT, 0)));
     }
-    let t = the_type(words, at + 2);
-    if t {
-        let m = put(words, tape, at, n, PORT, 0);
-        Out::At(at + 3, m)
-    } else {
-        Out::Bad(at + 2)
+    if !the_type(words, at + 2) {
+        return Err(Misfit { at: at + 2 });
     }
+    Ok((at + 3, put(words, tape, at, n, PORT, 0)))
 }
 
 // `log`, `ceil` or `floor` of a type.
@@ -105,18 +88,10 @@ fn function(words: &Table, tape: &mut Tape, at: usize, n: usize, op: u32) -> Out
     requires op_bound { op ≤ FLOOR }
     ensures { IsTerm words.now at n tape.old result tape.new }
 {
-    let k = kind(words, at + 1);
-    if k != kinds::OPEN {
-        return Out::Bad(at + 1);
-    }
-    let o = typ(words, tape, at + 2, n);
-    match closed(words, o, kinds::CLOSE) {
-        Out::At(x, m) => {
-            let q = put(words, tape, at, m, op, 0);
-            Out::At(x, q)
-        }
-        Out::Bad(i) => Out::Bad(i),
-    }
+    let x = expect(words, at + 1, kinds::OPEN)?;
+    let (y, m) = typ(words, tape, x, n)?;
+    let z = expect(words, y, kinds::CLOSE)?;
+    Ok((z, put(words, tape, at, m, op, 0)))
 }
 
 // `max` of its entries.
@@ -125,23 +100,11 @@ fn most(words: &Table, tape: &mut Tape, at: usize, n: usize) -> Out
     requires { Starts words.now at n max_kind }
     ensures { IsTerm words.now at n tape.old result tape.new }
 {
-    let k = kind(words, at + 1);
-    if k != kinds::OPEN {
-        return Out::Bad(at + 1);
-    }
-    match typ(words, tape, at + 2, n) {
-        Out::At(x, m) => {
-            let o = entries(words, tape, x, m);
-            match closed(words, o, kinds::CLOSE) {
-                Out::At(y, q) => {
-                    let p = put(words, tape, at, q, MOST, 0);
-                    Out::At(y, p)
-                }
-                Out::Bad(i) => Out::Bad(i),
-            }
-        }
-        Out::Bad(i) => Out::Bad(i),
-    }
+    let x = expect(words, at + 1, kinds::OPEN)?;
+    let (y, m) = typ(words, tape, x, n)?;
+    let (z, q) = entries(words, tape, y, m)?;
+    let end = expect(words, z, kinds::CLOSE)?;
+    Ok((end, put(words, tape, at, q, MOST, 0)))
 }
 
 // What follows an entry that is on the tape.
@@ -150,21 +113,12 @@ fn entries(words: &Table, tape: &mut Tape, at: usize, n: usize) -> Out
     requires { Room words.now at n }
     ensures { IsEntries words.now at n tape.old result tape.new }
 {
-    let mut x = at;
-    let mut m = n;
-    loop {
-        let k = kind(words, x);
-        if k != kinds::COMMA {
-            return Out::At(x, m);
-        }
-        match typ(words, tape, x + 1, m) {
-            Out::At(y, o) => {
-                x = y;
-                m = emit(tape, o, ENTRY, 0);
-            }
-            Out::Bad(i) => return Out::Bad(i),
-        }
+    let (mut x, mut m) = (at, n);
+    while kind(words, x) == kinds::COMMA {
+        (x, m) = typ(words, tape, x + 1, m)?;
+        m = emit(tape, m, ENTRY, 0);
     }
+    Ok((x, m))
 }
 
 // A type in parentheses.
@@ -173,12 +127,7 @@ fn within(words: &Table, tape: &mut Tape, at: usize, n: usize) -> Out
     requires { Starts words.now at n open_kind }
     ensures { IsTerm words.now at n tape.old result tape.new }
 {
-    let o = typ(words, tape, at + 1, n);
-    match closed(words, o, kinds::CLOSE) {
-        Out::At(x, m) => {
-            let q = put(words, tape, at, m, WITHIN, 0);
-            Out::At(x, q)
-        }
-        Out::Bad(i) => Out::Bad(i),
-    }
+    let (x, m) = typ(words, tape, at + 1, n)?;
+    let y = expect(words, x, kinds::CLOSE)?;
+    Ok((y, put(words, tape, at, m, WITHIN, 0)))
 }

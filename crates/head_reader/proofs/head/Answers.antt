@@ -1,46 +1,74 @@
 -- `head_reader::head` meets its contract. Assumes nothing.
 use native.Mathlib.Omega.{arith}
-use mathlib.Core.Path.{sym, ◌∙◌}
-use Prim.Native.Nat.{◌+◌}
-use Rattle.readers.specs.Meets.{fault}
-use Rattle.readers.proofs.Laws.{on_more, moved_more, stands}
-use Rattle.readers.proofs.Spells.{expect_at, expect_bad, until2_at, until2_bad, closed_at, closed_bad, closed_moved}
 use Rattle.readers.proofs.Fixed.{s_open, s_close, s_brace}
+use Rattle.readers.proofs.Laws.{on_more, moved_more, same_err}
+use Rattle.readers.proofs.Spells.{expect_found, expect_missed, until_ok, until_missed, until_err, found_at}
+use Rattle.readers.specs.Meets.{fault}
 use Rattle.head_reader.proofs.Laws.{head_name, head_none}
 use Rattle.head_reader.proofs.head.Goals as goal
 
-pub returns-then-name-ne-NAME : goal.returns-then-name-ne-NAME
-returns-then-name-ne-NAME c = record { moved = omega (arith, c.requires); agrees = λ M f h. rw (head_none M _ f (λ q. c.if-name-ne-NAME.true (c.kind-name.ensures.is ∙ q))) fault }
+pub returns-in_err-x : goal.returns-in_err-x
+returns-in_err-x c = rw (same_err c.from_residual.ensures.1) (record {
+  moved = omega (arith, c.requires, c.in_err-x.ensures);
+  agrees = λ M f h. rw (head_none M _ f c.in_err-x.ensures) fault;
+})
 
-pub returns-then-open-ne-OPEN : goal.returns-then-open-ne-OPEN
-returns-then-open-ne-OPEN c = record { moved = omega (arith, c.requires); agrees = λ M f h. rw (head_name M _ f (sym c.kind-name.ensures.is ∙ c.if-name-ne-NAME.false)) (rw (expect_bad M "(" 36 _ s_open _ (λ q. c.if-open-ne-OPEN.true (c.kind-open.ensures.is ∙ q))) fault) }
+pub returns-in_err-y : goal.returns-in_err-y
+returns-in_err-y c = rw (same_err c.from_residual-in_err-y.ensures.1) (record {
+  moved = omega (arith, c.requires, c.in_ok-x.ensures, found_at (omega arith) c.in_ok-x.ensures, c.in_err-y.ensures);
+  agrees = λ M f h. rw (head_name M _ f c.in_ok-x.ensures)
+      (expect_missed M s_open _ c.in_err-y.ensures);
+})
 
-pub closed-c-requires : goal.closed-c-requires
-closed-c-requires c = stands c.requires.few c.signature-s.ensures.moved
+pub returns-in_err-z : goal.returns-in_err-z
+returns-in_err-z c = rw (same_err c.from_residual-in_err-z.ensures.1) (record {
+  moved = record { to = c.in_err-z.ensures.moved.to };
+  agrees = λ M f h. rw (head_name M _ f c.in_ok-x.ensures)
+      (rw (expect_found M s_open _ c.in_ok-y.ensures)
+      (until_err M s_close _ _ (c.in_err-z.ensures.agrees M f (omega (arith, c.requires, c.in_ok-x.ensures, found_at (omega arith) c.in_ok-x.ensures, c.in_ok-y.ensures, found_at (omega arith) c.in_ok-y.ensures)))));
+})
 
-pub closed-requires : goal.closed-requires
-closed-requires c = stands c.requires.few (closed_moved (omega arith) c.closed-c.ensures c.signature-s.ensures.moved)
+pub returns-in_err-end : goal.returns-in_err-end
+returns-in_err-end c = rw (same_err c.from_residual-in_err-end.ensures.1) (record {
+  moved = omega (arith, c.requires, c.in_ok-x.ensures, found_at (omega arith) c.in_ok-x.ensures, c.in_ok-y.ensures, found_at (omega arith) c.in_ok-y.ensures, c.in_ok-z.ensures.moved.to, c.in_err-end.ensures);
+  agrees = λ M f h. rw (head_name M _ f c.in_ok-x.ensures)
+      (rw (expect_found M s_open _ c.in_ok-y.ensures)
+      (until_missed M s_close _ _ (c.in_ok-z.ensures.agrees M f (omega (arith, c.requires, c.in_ok-x.ensures, found_at (omega arith) c.in_ok-x.ensures, c.in_ok-y.ensures, found_at (omega arith) c.in_ok-y.ensures))) c.in_err-end.ensures));
+})
+
+pub returns-in_err-first : goal.returns-in_err-first
+returns-in_err-first c = rw (same_err c.from_residual-in_err-first.ensures.1) (record {
+  moved = omega (arith, c.requires, c.in_ok-x.ensures, found_at (omega arith) c.in_ok-x.ensures, c.in_ok-y.ensures, found_at (omega arith) c.in_ok-y.ensures, c.in_ok-z.ensures.moved.to, c.in_ok-end.ensures, found_at (omega arith) c.in_ok-end.ensures, c.in_err-first.ensures);
+  agrees = λ M f h. rw (head_name M _ f c.in_ok-x.ensures)
+      (rw (expect_found M s_open _ c.in_ok-y.ensures)
+      (until_ok M s_close _ _ (c.in_ok-z.ensures.agrees M f (omega (arith, c.requires, c.in_ok-x.ensures, found_at (omega arith) c.in_ok-x.ensures, c.in_ok-y.ensures, found_at (omega arith) c.in_ok-y.ensures))) c.in_ok-end.ensures (λ a p on₁.
+      expect_missed M s_brace _ c.in_err-first.ensures)));
+})
+
+pub expect-requires-2 : goal.expect-requires-2
+expect-requires-2 c = omega (arith, c.requires, c.in_ok-x.ensures, found_at (omega arith) c.in_ok-x.ensures)
+
+pub put-m-requires-clause-n_bound : goal.put-m-requires-clause-n_bound
+put-m-requires-clause-n_bound c = omega (arith, c.requires, c.in_ok-x.ensures, found_at (omega arith) c.in_ok-x.ensures, c.in_ok-y.ensures, found_at (omega arith) c.in_ok-y.ensures)
+
+pub put-m-requires-clause-within : goal.put-m-requires-clause-within
+put-m-requires-clause-within c = omega (arith, c.requires, c.in_ok-x.ensures, found_at (omega arith) c.in_ok-x.ensures, c.in_ok-y.ensures, found_at (omega arith) c.in_ok-y.ensures)
+
+pub signature-requires : goal.signature-requires
+signature-requires c = omega (arith, c.requires, c.in_ok-x.ensures, found_at (omega arith) c.in_ok-x.ensures, c.in_ok-y.ensures, found_at (omega arith) c.in_ok-y.ensures, c.put-m.ensures)
+
+pub expect-requires-4 : goal.expect-requires-4
+expect-requires-4 c = omega (arith, c.requires, c.in_ok-x.ensures, found_at (omega arith) c.in_ok-x.ensures, c.in_ok-y.ensures, found_at (omega arith) c.in_ok-y.ensures, c.in_ok-z.ensures.moved.to, c.in_ok-end.ensures, found_at (omega arith) c.in_ok-end.ensures)
 
 pub declarations-requires : goal.declarations-requires
-declarations-requires c = let w = closed_at (omega arith) c.in-At.is c.closed.ensures (closed_moved (omega arith) c.closed-c.ensures c.signature-s.ensures.moved) in
-    omega (arith, c.requires, c.put-m.ensures)
+declarations-requires c = omega (arith, c.requires, c.in_ok-x.ensures, found_at (omega arith) c.in_ok-x.ensures, c.in_ok-y.ensures, found_at (omega arith) c.in_ok-y.ensures, c.in_ok-z.ensures.moved.to, c.in_ok-end.ensures, found_at (omega arith) c.in_ok-end.ensures, c.in_ok-first.ensures, found_at (omega arith) c.in_ok-first.ensures, c.put-m.ensures)
 
-pub returns-in-At : goal.returns-in-At
-returns-in-At c = let w = closed_at (omega arith) c.in-At.is c.closed.ensures (closed_moved (omega arith) c.closed-c.ensures c.signature-s.ensures.moved) in record {
-  moved = moved_more (omega (arith, c.requires, c.put-m.ensures)) c.declarations.ensures.moved;
-  agrees = λ M f h. rw (head_name M _ f (sym c.kind-name.ensures.is ∙ c.if-name-ne-NAME.false))
-      (rw (expect_at M "(" 36 (c.args.at + 1) s_open (c.args.at + 2) _
-      (sym c.kind-open.ensures.is ∙ c.if-open-ne-OPEN.false) (omega arith))
-      (until2_at M s_close s_brace _ _ c.in-At.is c.closed-c.ensures c.closed.ensures
-      (c.signature-s.ensures.agrees M f (omega (arith, c.requires)))
-      (λ l on. c.declarations.ensures.agrees M f (omega (arith, c.requires)) _ l (on_more c.put-m.ensures on))));
-}
-
-pub returns-in-Bad : goal.returns-in-Bad
-returns-in-Bad c = record {
-  moved = record { to = closed_bad c.in-Bad.is c.closed.ensures (closed_moved (omega arith) c.closed-c.ensures c.signature-s.ensures.moved) };
-  agrees = λ M f h. rw (head_name M _ f (sym c.kind-name.ensures.is ∙ c.if-name-ne-NAME.false))
-      (rw (expect_at M "(" 36 (c.args.at + 1) s_open (c.args.at + 2) _
-      (sym c.kind-open.ensures.is ∙ c.if-open-ne-OPEN.false) (omega arith))
-      (until2_bad M s_close s_brace _ _ c.in-Bad.is c.closed-c.ensures c.closed.ensures (c.signature-s.ensures.agrees M f (omega (arith, c.requires)))));
+pub returns : goal.returns
+returns c = record {
+  moved = moved_more (omega (arith, c.requires, c.in_ok-x.ensures, found_at (omega arith) c.in_ok-x.ensures, c.in_ok-y.ensures, found_at (omega arith) c.in_ok-y.ensures, c.in_ok-z.ensures.moved.to, c.in_ok-end.ensures, found_at (omega arith) c.in_ok-end.ensures, c.in_ok-first.ensures, found_at (omega arith) c.in_ok-first.ensures, c.put-m.ensures)) c.declarations.ensures.moved;
+  agrees = λ M f h. rw (head_name M _ f c.in_ok-x.ensures)
+      (rw (expect_found M s_open _ c.in_ok-y.ensures)
+      (until_ok M s_close _ _ (c.in_ok-z.ensures.agrees M f (omega (arith, c.requires, c.in_ok-x.ensures, found_at (omega arith) c.in_ok-x.ensures, c.in_ok-y.ensures, found_at (omega arith) c.in_ok-y.ensures))) c.in_ok-end.ensures (λ a p on₁.
+      rw (expect_found M s_brace _ c.in_ok-first.ensures)
+      (c.declarations.ensures.agrees M f (omega (arith, c.requires, c.in_ok-x.ensures, found_at (omega arith) c.in_ok-x.ensures, c.in_ok-y.ensures, found_at (omega arith) c.in_ok-y.ensures, c.in_ok-z.ensures.moved.to, c.in_ok-end.ensures, found_at (omega arith) c.in_ok-end.ensures, c.in_ok-first.ensures, found_at (omega arith) c.in_ok-first.ensures)) _ a (on_more c.put-m.ensures on₁)))));
 }

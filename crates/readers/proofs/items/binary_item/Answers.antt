@@ -3,4 +3,4 @@ use Rattle.readers.proofs.Laws.{on_value}
 use Rattle.readers.proofs.items.binary_item.Goals as goal
 
 pub returns : goal.returns
-returns c = on_value c.binary_number-number.ensures c.emit.ensures
+returns c = on_value c.binary_number.ensures c.emit.ensures

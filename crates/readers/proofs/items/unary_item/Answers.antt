@@ -3,4 +3,4 @@ use Rattle.readers.proofs.Laws.{on_value}
 use Rattle.readers.proofs.items.unary_item.Goals as goal
 
 pub returns : goal.returns
-returns c = on_value c.unary_number-number.ensures c.put.ensures
+returns c = on_value c.unary_number.ensures c.put.ensures

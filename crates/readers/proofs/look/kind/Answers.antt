@@ -5,10 +5,10 @@ use Rattle.readers.specs.Marks.{count}
 use borrow.Author.Rules.{rules}
 use Rattle.readers.proofs.look.kind.Goals as goal
 
-pub returns-then-at-many : goal.returns-then-at-many
+pub returns-then-at-words : goal.returns-then-at-words
 unfolding count
-returns-then-at-many c = record { is = sym (kind_is _ _ (search rules)); word = search rules }
+returns-then-at-words c = record { is = sym (kind_is _ _ (search rules)); word = search rules }
 
-pub returns-else-at-many : goal.returns-else-at-many
+pub returns-else-at-words : goal.returns-else-at-words
 unfolding count
-returns-else-at-many c = record { is = sym (kind_past _ _ (search rules)); word = search rules }
+returns-else-at-words c = record { is = sym (kind_past _ _ (search rules)); word = search rules }

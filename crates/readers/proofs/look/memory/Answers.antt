@@ -4,4 +4,4 @@ use Rattle.readers.proofs.look.memory.Goals as goal
 
 pub returns : goal.returns
 unfolding is_memory
-returns c = rw c.value-v.ensures
+returns c = rw c.value.ensures

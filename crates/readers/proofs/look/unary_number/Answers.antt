@@ -1,51 +1,17 @@
--- `readers::look::unary_number` meets its contract: the table is a test at each of its entries, which antt computes; past it no word is fixed. Assumes nothing.
-use native.Mathlib.Omega.{arith}
-use mathlib.Core.Path.{sym, ap, ◌∙◌}
-use mathlib.Core.Bool.{Bool}
-use Prim.Native.Nat.{ℕ, ◌-◌}
+-- `readers::look::unary_number` meets its contract: its table is a test at each of its entries, which antt computes; past it no word is fixed. Assumes nothing.
+use mathlib.Core.Path.{refl, sym, ap, ◌∙◌}
 use Prim.Native.String.{String}
-use mir.Val.{Fits}
-use mir.Syntax.{w32}
-use lib.Dec.{T, eqb, leb, eqb→eq, leb→le}
-use mathlib.Core.List.{List}
-use lib.ListN.{get_or}
-use Rattle.language.specs.Words.{bytes}
 use Rattle.language.specs.Grammar.{prefixes, prefix_in}
 use Rattle.readers.specs.Marks.{unary_of, unary_in, fixed_of}
 use Rattle.signs.specs.Kinds.{spelled_words}
-use Rattle.readers.proofs.Table.{at}
+use Rattle.readers.proofs.Table.{at_least, figure_law}
 use Rattle.readers.proofs.Spells.{fixed_past}
-use borrow.Author.Rules.{rules}
+use Rattle.readers.specs.declared.look.TheConstants.{UNARIES}
 use Rattle.readers.proofs.look.unary_number.Goals as goal
 
-numbers : List ℕ
-unfolding bytes
-numbers = bytes "00000000000000000000000000000000046800000000000000203571000000000"
+pub figure-requires : goal.figure-requires
+figure-requires c = at_least 48 UNARIES tt
 
-figure : ℕ → ℕ → Bool
-figure k x = leb 48 x
-
-small : ℕ → ℕ → Bool
-small k x = leb x 57
-
-right : ℕ → ℕ → Bool
-right k x = eqb (x - 48) (unary_of k)
-
-small_fits : (x : ℕ) → T (leb x 57) → Fits w32 (x - 48)
-small_fits x t = let h = leb→le x 57 t in omega (arith, h)
-
-pub overflow_sub-result : goal.overflow_sub-result
-unfolding numbers figure
-overflow_sub-result c = leb→le 48 (get_or numbers c.wide-i.result 0) (at figure numbers tt c.wide-i.result c.if-i-lt-KINDS.true)
-
-pub overflow_cast-result : goal.overflow_cast-result
-unfolding numbers small
-overflow_cast-result c = small_fits (get_or numbers c.wide-i.result 0) (at small numbers tt c.wide-i.result c.if-i-lt-KINDS.true)
-
-pub returns-then-i-lt-KINDS : goal.returns-then-i-lt-KINDS
-unfolding numbers right unary_of unary_in prefix_in prefixes fixed_of spelled_words
-returns-then-i-lt-KINDS c = eqb→eq (get_or numbers c.wide-i.result 0 - 48) (unary_of c.wide-i.result) (at right numbers tt c.wide-i.result c.if-i-lt-KINDS.true) ∙ ap unary_of c.wide-i.ensures
-
-pub returns-else-i-lt-KINDS : goal.returns-else-i-lt-KINDS
-unfolding unary_of unary_in prefix_in prefixes
-returns-else-i-lt-KINDS c = sym (ap (λ (s : String). unary_in (prefix_in prefixes s)) (fixed_past c.args.k (search rules)))
+pub returns : goal.returns
+unfolding unary_of unary_in prefix_in prefixes fixed_of spelled_words
+returns c = c.figure.ensures ∙ figure_law UNARIES 48 0 unary_of refl tt (λ k h. sym (ap (λ (s : String). unary_in (prefix_in prefixes s)) (fixed_past k h))) c.args.k

@@ -3,46 +3,39 @@ use native.Mathlib.Omega.{arith}
 use mathlib.Core.Path.{sym, ◌∙◌}
 use Rattle.tape.specs.Tape.{flat}
 use Rattle.readers.specs.Meets.{read, fault}
-use Rattle.readers.proofs.Laws.{on_more, stands}
-use Rattle.readers.proofs.Spells.{until_at, until_bad, closed_at, closed_bad}
+use Rattle.readers.proofs.Laws.{on_more, same_err}
+use Rattle.readers.proofs.Spells.{until_ok, until_missed, until_err, found_at}
 use Rattle.readers.proofs.Fixed.{s_unbracket}
 use Rattle.type_reader.proofs.Operands.{positions_range, positions_bit, positions_none}
 use Rattle.type_reader.proofs.constants.positions.Goals as goal
 
-pub kind-k-requires : goal.kind-k-requires
-kind-k-requires c = omega (arith, c.requires)
-
-pub put-m-requires : goal.put-m-requires
-put-m-requires c = omega (arith, c.requires)
-
-pub returns-then-k-eq-UNBRACKET : goal.returns-then-k-eq-UNBRACKET
+pub returns-then-kind-eq-UNBRACKET : goal.returns-then-kind-eq-UNBRACKET
 unfolding flat
-returns-then-k-eq-UNBRACKET c = record { moved = omega (arith, c.requires); agrees = λ M f h e i on. rw (positions_bit M f _ e _ i (sym c.kind-k.ensures.is ∙ c.if-k-eq-UNBRACKET.true)) (read (on_more on c.put-m.ensures)) }
+returns-then-kind-eq-UNBRACKET c = record { moved = omega (arith, c.requires); agrees = λ M f h e i on. rw (positions_bit M f _ e _ i (sym c.kind.ensures.is ∙ c.if-kind-eq-UNBRACKET.true)) (read (on_more on c.put.ensures)) }
 
-pub returns-then-k-ne-COLON : goal.returns-then-k-ne-COLON
-returns-then-k-ne-COLON c = record { moved = omega (arith, c.requires); agrees = λ M f h e i on. rw (positions_none M f _ e _ i (λ q. c.if-k-ne-COLON.true (c.kind-k.ensures.is ∙ q)) (λ q. c.if-k-eq-UNBRACKET.false (c.kind-k.ensures.is ∙ q))) fault }
+pub returns-in_err-x : goal.returns-in_err-x
+returns-in_err-x c = rw (same_err c.from_residual.ensures.1) (record {
+  moved = omega (arith, c.requires, c.in_err-x.ensures);
+  agrees = λ M f h e i on. rw (positions_none M f _ e _ i c.in_err-x.ensures (λ q. c.if-kind-eq-UNBRACKET.false (c.kind.ensures.is ∙ q))) fault;
+})
 
-pub typ-o-requires : goal.typ-o-requires
-typ-o-requires c = omega (arith, c.requires)
+pub returns-in_err-y : goal.returns-in_err-y
+returns-in_err-y c = rw (same_err c.from_residual-in_err-y.ensures.1) (record {
+  moved = record { to = c.in_err-y.ensures.moved.to };
+  agrees = λ M f h e i on. rw (positions_range M f _ e _ i c.in_ok-x.ensures) (until_err M s_unbracket _ _ (c.in_err-y.ensures.agrees M f (omega (arith, c.requires, c.in_ok-x.ensures))));
+})
 
-pub closed-requires : goal.closed-requires
-closed-requires c = stands c.requires.few c.typ-o.ensures.moved
+pub returns-in_err-z : goal.returns-in_err-z
+returns-in_err-z c = rw (same_err c.from_residual-in_err-z.ensures.1) (record {
+  moved = omega (arith, c.in_ok-y.ensures.moved.to, c.in_err-z.ensures);
+  agrees = λ M f h e i on. rw (positions_range M f _ e _ i c.in_ok-x.ensures) (until_missed M s_unbracket _ _ (c.in_ok-y.ensures.agrees M f (omega (arith, c.requires, c.in_ok-x.ensures))) c.in_err-z.ensures);
+})
 
-pub put-q-requires : goal.put-q-requires
-put-q-requires c = let w = closed_at (omega arith) c.in-At.is c.closed.ensures c.typ-o.ensures.moved in omega (arith, c.requires)
-
-pub returns-in-At : goal.returns-in-At
+pub returns : goal.returns
 unfolding flat
-returns-in-At c = let w = closed_at (omega arith) c.in-At.is c.closed.ensures c.typ-o.ensures.moved in record {
-  moved = omega (arith, c.requires);
-  agrees = λ M f h e i on. rw (positions_range M f _ e _ i (sym c.kind-k.ensures.is ∙ c.if-k-ne-COLON.false))
-      (until_at M s_unbracket _ _ c.in-At.is c.closed.ensures (c.typ-o.ensures.agrees M f (omega (arith, c.requires)))
-      (λ j p on₁. read (on_more (on_more on on₁) c.put-q.ensures)));
-}
-
-pub returns-in-Bad : goal.returns-in-Bad
-returns-in-Bad c = record {
-  moved = record { to = closed_bad c.in-Bad.is c.closed.ensures c.typ-o.ensures.moved };
-  agrees = λ M f h e i on. rw (positions_range M f _ e _ i (sym c.kind-k.ensures.is ∙ c.if-k-ne-COLON.false))
-      (until_bad M s_unbracket _ _ c.in-Bad.is c.closed.ensures (c.typ-o.ensures.agrees M f (omega (arith, c.requires))));
+returns c = record {
+  moved = omega (arith, c.requires, c.in_ok-x.ensures, c.in_ok-y.ensures.moved.to, c.in_ok-z.ensures, found_at (omega arith) c.in_ok-z.ensures, c.put-2.ensures);
+  agrees = λ M f h e i on. rw (positions_range M f _ e _ i c.in_ok-x.ensures)
+      (until_ok M s_unbracket _ _ (c.in_ok-y.ensures.agrees M f (omega (arith, c.requires, c.in_ok-x.ensures))) c.in_ok-z.ensures
+      (λ j p on₁. read (on_more (on_more on on₁) c.put-2.ensures)));
 }

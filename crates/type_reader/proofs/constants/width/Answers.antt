@@ -6,18 +6,9 @@ use Rattle.readers.proofs.Laws.{suc_of2, moved_more}
 use Rattle.type_reader.proofs.Operands.{operand_width}
 use Rattle.type_reader.proofs.constants.width.Goals as goal
 
-pub value-v-requires : goal.value-v-requires
-value-v-requires c = omega (arith, c.requires)
-
-pub put-m-requires : goal.put-m-requires
-put-m-requires c = omega (arith, c.requires)
-
-pub amount-requires : goal.amount-requires
-amount-requires c = omega (arith, c.requires)
-
 pub returns : goal.returns
 unfolding flat_b
 returns c = record {
   moved = moved_more (omega (arith, c.requires)) c.amount.ensures.moved;
-  agrees = λ M f h. rw (suc_of2 f (omega (arith, c.requires))) (rw (operand_width M (f - 2) _ c.requires.starts.kind c.requires.valued) (c.amount.ensures.agrees M _ (rw c.value-v.ensures at c.put-m.ensures)));
+  agrees = λ M f h. rw (suc_of2 f (omega (arith, c.requires))) (rw (operand_width M (f - 2) _ c.requires.starts.kind c.requires.valued) (c.amount.ensures.agrees M _ (rw c.value.ensures at c.put-m.ensures)));
 }
