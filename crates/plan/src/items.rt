@@ -204,46 +204,14 @@ pub fn constant(lo: u32, hi: u32) -> u64
 fn unary_number(u: Unary) -> u32
     ensures { result ≡ unary_number u }
 {
-    match u {
-        Unary::Invert => 0,
-        Unary::Plus => 1,
-        Unary::Not => 2,
-        Unary::All => 3,
-        Unary::NotAll => 4,
-        Unary::Any => 5,
-        Unary::NotAny => 6,
-        Unary::Odd => 7,
-        Unary::NotOdd => 8,
-    }
+    u as u32
 }
 
 // The number of an operator between its operands.
 fn binary_number(o: Binary) -> u32
     ensures { result ≡ binary_number o }
 {
-    match o {
-        Binary::Multiply => 0,
-        Binary::Divide => 1,
-        Binary::Remainder => 2,
-        Binary::Add => 3,
-        Binary::Subtract => 4,
-        Binary::Left => 5,
-        Binary::Right => 6,
-        Binary::Less => 7,
-        Binary::AtMost => 8,
-        Binary::Greater => 9,
-        Binary::AtLeast => 10,
-        Binary::Equal => 11,
-        Binary::Unequal => 12,
-        Binary::And => 13,
-        Binary::NotAnd => 14,
-        Binary::Xor => 15,
-        Binary::NotXor => 16,
-        Binary::Or => 17,
-        Binary::NotOr => 18,
-        Binary::Both => 19,
-        Binary::Either => 20,
-    }
+    o as u32
 }
 
 // The four numbers of an item.
