@@ -14,6 +14,7 @@ pub fn place(x: u32) -> usize
 }
 
 // Bit k of a mask, 0 past its end.
+#[tactic(auto, using(crate::proofs::Lists::bit_past), unfolding(language::specs::Values::bit_of))]
 pub fn bit(a: u32, k: u32) -> u32
     ensures { result ≡ bit_of a k }
 {
@@ -21,31 +22,31 @@ pub fn bit(a: u32, k: u32) -> u32
 }
 
 // A value fits a width.
+#[tactic(auto, using(crate::proofs::Lists::fits_past, crate::proofs::Lists::one_shl))]
 pub fn within(x: u64, w: u32) -> bool
     ensures { result ≡ ltb x (2 ^ w) }
 {
-    if w < 64 { x < 1u64 << w } else { true }
+    w >= 64 || x < 1 << w
 }
 
 // A number of the plan, 0 past its end.
 pub fn number(plan: &[u32], at: usize) -> u32
     ensures { result ≡ get_or plan.now at 0 }
 {
-    if at < plan.len() { plan[at] } else { 0 }
+    plan.get(at).copied().unwrap_or(0)
 }
 
 // The sum of n numbers of the plan, each `step` places after the one before.
+#[tactic(auto, using(crate::proofs::Lists::sum_next, crate::proofs::Lists::place_next), unfolding(crate::specs::Layout::sum_of))]
 fn sum(plan: &[u32], from: usize, step: usize, n: u32) -> usize
     requires { (from < 137438953472) × (step ≤ 3) }
     ensures { (result ≡ sum_of plan.now from step n) × (result ≤ greatest * n) }
 {
-    let mut total = 0usize;
+    let mut total = 0;
     let mut at = from;
-    let mut i = 0u32;
-    while i < n {
+    for _i in 0..n {
         total += place(number(plan, at));
         at += step;
-        i += 1;
     }
     total
 }
@@ -62,24 +63,28 @@ pub fn port_at(plan: &[u32], i: u32) -> u32
     number(plan, 2 + place(i))
 }
 
+#[tactic(auto, unfolding(crate::specs::Layout::memories_from))]
 pub fn memories_from(plan: &[u32]) -> usize
     ensures { (result ≡ memories_from plan.now) × (result < 8589934592) }
 {
     2 + place(port_count(plan))
 }
 
+#[tactic(auto, unfolding(crate::specs::Layout::memory_count))]
 pub fn memory_count(plan: &[u32]) -> u32
     ensures { result ≡ memory_count plan.now }
 {
     number(plan, memories_from(plan))
 }
 
+#[tactic(auto, unfolding(crate::specs::Layout::memory_width_at))]
 pub fn memory_width(plan: &[u32], m: u32) -> u32
     ensures { result ≡ memory_width_at plan.now m }
 {
     number(plan, memories_from(plan) + 1 + 2 * place(m))
 }
 
+#[tactic(auto, unfolding(crate::specs::Layout::memory_size_at))]
 pub fn memory_size(plan: &[u32], m: u32) -> u32
     ensures { result ≡ memory_size_at plan.now m }
 {
@@ -87,18 +92,21 @@ pub fn memory_size(plan: &[u32], m: u32) -> u32
 }
 
 // The cells of the first m memories.
+#[tactic(auto, using(crate::proofs::Lists::cells_sum))]
 pub fn cells_before(plan: &[u32], m: u32) -> usize
     ensures { (result ≡ cells_before plan.now m) × (result ≤ greatest * m) }
 {
     sum(plan, memories_from(plan) + 2, 2, m)
 }
 
+#[tactic(auto, unfolding(crate::specs::Layout::groups_from))]
 pub fn groups_from(plan: &[u32]) -> usize
     ensures { (result ≡ groups_from plan.now) × (result < 34359738368) }
 {
     memories_from(plan) + 1 + 2 * place(memory_count(plan))
 }
 
+#[tactic(auto, unfolding(crate::specs::Layout::group_count))]
 pub fn group_count(plan: &[u32]) -> u32
     ensures { result ≡ group_count plan.now }
 {
@@ -106,6 +114,7 @@ pub fn group_count(plan: &[u32]) -> u32
 }
 
 // The number of rules in a group.
+#[tactic(auto, unfolding(crate::specs::Layout::group_at))]
 pub fn group_at(plan: &[u32], g: u32) -> u32
     ensures { result ≡ group_at plan.now g }
 {
@@ -113,6 +122,7 @@ pub fn group_at(plan: &[u32], g: u32) -> u32
 }
 
 // The same, of groups that begin at a place: they are looked for once.
+#[tactic(auto, unfolding(crate::specs::Layout::group_at))]
 pub fn group_in(plan: &[u32], from: usize, g: u32) -> u32
     requires { (from ≡ groups_from plan.now) × (from < 34359738368) }
     ensures { result ≡ group_at plan.now g }
@@ -120,6 +130,7 @@ pub fn group_in(plan: &[u32], from: usize, g: u32) -> u32
     number(plan, from + 1 + place(g))
 }
 
+#[tactic(auto, unfolding(crate::specs::Layout::group_count))]
 pub fn groups_in(plan: &[u32], from: usize) -> u32
     requires { from ≡ groups_from plan.now }
     ensures { result ≡ group_count plan.now }
@@ -128,18 +139,21 @@ pub fn groups_in(plan: &[u32], from: usize) -> u32
 }
 
 // The rules of the first g groups.
+#[tactic(auto, using(crate::proofs::Lists::rules_sum))]
 pub fn rules_before(plan: &[u32], g: u32) -> usize
     ensures { (result ≡ rules_before plan.now g) × (result ≤ greatest * g) }
 {
     sum(plan, groups_from(plan) + 1, 1, g)
 }
 
+#[tactic(auto, unfolding(crate::specs::Layout::rules_from))]
 pub fn rules_from(plan: &[u32]) -> usize
     ensures { (result ≡ rules_from plan.now) × (result < farthest) }
 {
     groups_from(plan) + 1 + place(group_count(plan))
 }
 
+#[tactic(auto, unfolding(crate::specs::Layout::rule_count))]
 pub fn rule_count(plan: &[u32]) -> u32
     ensures { result ≡ rule_count plan.now }
 {
@@ -147,6 +161,7 @@ pub fn rule_count(plan: &[u32]) -> u32
 }
 
 // The mask of the ports that a rule requires present.
+#[tactic(auto, unfolding(crate::specs::Layout::present_at))]
 pub fn present_at(plan: &[u32], r: u32) -> u32
     ensures { result ≡ present_at plan.now r }
 {
@@ -154,6 +169,7 @@ pub fn present_at(plan: &[u32], r: u32) -> u32
 }
 
 // The mask of the ports that a rule requires absent.
+#[tactic(auto, unfolding(crate::specs::Layout::absent_at))]
 pub fn absent_at(plan: &[u32], r: u32) -> u32
     ensures { result ≡ absent_at plan.now r }
 {
@@ -167,6 +183,7 @@ pub struct Masks {
     pub absent: u32,
 }
 
+#[tactic(auto, unfolding(crate::specs::Layout::present_at, crate::specs::Layout::absent_at))]
 pub fn masks_in(plan: &[u32], from: usize, r: u32) -> Masks
     requires { (from ≡ rules_from plan.now) × (from < farthest) }
     ensures { (result.present ≡ present_at plan.now r) × (result.absent ≡ absent_at plan.now r) }
@@ -178,6 +195,7 @@ pub fn masks_in(plan: &[u32], from: usize, r: u32) -> Masks
 }
 
 // The length of a rule's code.
+#[tactic(auto, unfolding(crate::specs::Layout::length_at))]
 pub fn length_at(plan: &[u32], r: u32) -> u32
     ensures { result ≡ length_at plan.now r }
 {
@@ -185,12 +203,14 @@ pub fn length_at(plan: &[u32], r: u32) -> u32
 }
 
 // The numbers of code of the first r rules.
+#[tactic(auto, using(crate::proofs::Lists::code_sum))]
 pub fn code_before(plan: &[u32], r: u32) -> usize
     ensures { (result ≡ code_before plan.now r) × (result ≤ greatest * r) }
 {
     sum(plan, rules_from(plan) + 3, 3, r)
 }
 
+#[tactic(auto, unfolding(crate::specs::Layout::code_from))]
 pub fn code_from(plan: &[u32]) -> usize
     ensures { (result ≡ code_from plan.now) × (result < 137438953472) }
 {
@@ -204,6 +224,7 @@ pub struct Stretch {
     pub length: u32,
 }
 
+#[tactic(auto, using(crate::proofs::Lists::code_sum), unfolding(crate::specs::Layout::code_from, crate::specs::Layout::rule_count, crate::specs::Layout::length_at))]
 pub fn code_at(plan: &[u32], r: u32) -> Stretch
     requires { code_from plan.now + 1 + code_before plan.now r ≤ length plan.now }
     ensures { (result.from ≡ code_from plan.now + 1 + code_before plan.now r) × (result.length ≡ length_at plan.now r) }
@@ -217,6 +238,7 @@ pub fn code_at(plan: &[u32], r: u32) -> Stretch
     }
 }
 
+#[tactic(auto, unfolding(crate::specs::Layout::code_count))]
 pub fn code_count(plan: &[u32]) -> u32
     ensures { result ≡ code_count plan.now }
 {
