@@ -1,4 +1,6 @@
 // Where the numbers of a plan stand, and what stands there.
+#![tactic(auto, unfolding(crate::specs::Layout::memories_from, crate::specs::Layout::memory_count, crate::specs::Layout::memory_width_at, crate::specs::Layout::memory_size_at, crate::specs::Layout::groups_from, crate::specs::Layout::group_count, crate::specs::Layout::group_at, crate::specs::Layout::rules_from, crate::specs::Layout::rule_count, crate::specs::Layout::present_at, crate::specs::Layout::absent_at, crate::specs::Layout::length_at, crate::specs::Layout::code_from, crate::specs::Layout::code_count))]
+
 ghost use Rattle.std.specs.Prelude.{◌≡◌, ◌+◌, ◌*◌, ◌^◌, ◌≤◌, ◌<◌, ltb, length, get_or};
 ghost use Rattle.language.specs.Values.{bit_of};
 ghost use Rattle.plan.specs.Layout.{port_count, port_at, memories_from, memory_count, memory_width_at, memory_size_at, cells_before, groups_from, group_count, group_at, rules_before, rules_from, rule_count, present_at, absent_at, length_at, code_before, code_from, code_count};
@@ -63,28 +65,24 @@ pub fn port_at(plan: &[u32], i: u32) -> u32
     number(plan, 2 + place(i))
 }
 
-#[tactic(auto, unfolding(crate::specs::Layout::memories_from))]
 pub fn memories_from(plan: &[u32]) -> usize
     ensures { (result ≡ memories_from plan.now) × (result < 8589934592) }
 {
     2 + place(port_count(plan))
 }
 
-#[tactic(auto, unfolding(crate::specs::Layout::memory_count))]
 pub fn memory_count(plan: &[u32]) -> u32
     ensures { result ≡ memory_count plan.now }
 {
     number(plan, memories_from(plan))
 }
 
-#[tactic(auto, unfolding(crate::specs::Layout::memory_width_at))]
 pub fn memory_width(plan: &[u32], m: u32) -> u32
     ensures { result ≡ memory_width_at plan.now m }
 {
     number(plan, memories_from(plan) + 1 + 2 * place(m))
 }
 
-#[tactic(auto, unfolding(crate::specs::Layout::memory_size_at))]
 pub fn memory_size(plan: &[u32], m: u32) -> u32
     ensures { result ≡ memory_size_at plan.now m }
 {
@@ -99,14 +97,12 @@ pub fn cells_before(plan: &[u32], m: u32) -> usize
     sum(plan, memories_from(plan) + 2, 2, m)
 }
 
-#[tactic(auto, unfolding(crate::specs::Layout::groups_from))]
 pub fn groups_from(plan: &[u32]) -> usize
     ensures { (result ≡ groups_from plan.now) × (result < 34359738368) }
 {
     memories_from(plan) + 1 + 2 * place(memory_count(plan))
 }
 
-#[tactic(auto, unfolding(crate::specs::Layout::group_count))]
 pub fn group_count(plan: &[u32]) -> u32
     ensures { result ≡ group_count plan.now }
 {
@@ -114,7 +110,6 @@ pub fn group_count(plan: &[u32]) -> u32
 }
 
 // The number of rules in a group.
-#[tactic(auto, unfolding(crate::specs::Layout::group_at))]
 pub fn group_at(plan: &[u32], g: u32) -> u32
     ensures { result ≡ group_at plan.now g }
 {
@@ -122,7 +117,6 @@ pub fn group_at(plan: &[u32], g: u32) -> u32
 }
 
 // The same, of groups that begin at a place: they are looked for once.
-#[tactic(auto, unfolding(crate::specs::Layout::group_at))]
 pub fn group_in(plan: &[u32], from: usize, g: u32) -> u32
     requires { (from ≡ groups_from plan.now) × (from < 34359738368) }
     ensures { result ≡ group_at plan.now g }
@@ -130,7 +124,6 @@ pub fn group_in(plan: &[u32], from: usize, g: u32) -> u32
     number(plan, from + 1 + place(g))
 }
 
-#[tactic(auto, unfolding(crate::specs::Layout::group_count))]
 pub fn groups_in(plan: &[u32], from: usize) -> u32
     requires { from ≡ groups_from plan.now }
     ensures { result ≡ group_count plan.now }
@@ -146,14 +139,12 @@ pub fn rules_before(plan: &[u32], g: u32) -> usize
     sum(plan, groups_from(plan) + 1, 1, g)
 }
 
-#[tactic(auto, unfolding(crate::specs::Layout::rules_from))]
 pub fn rules_from(plan: &[u32]) -> usize
     ensures { (result ≡ rules_from plan.now) × (result < farthest) }
 {
     groups_from(plan) + 1 + place(group_count(plan))
 }
 
-#[tactic(auto, unfolding(crate::specs::Layout::rule_count))]
 pub fn rule_count(plan: &[u32]) -> u32
     ensures { result ≡ rule_count plan.now }
 {
@@ -161,7 +152,6 @@ pub fn rule_count(plan: &[u32]) -> u32
 }
 
 // The mask of the ports that a rule requires present.
-#[tactic(auto, unfolding(crate::specs::Layout::present_at))]
 pub fn present_at(plan: &[u32], r: u32) -> u32
     ensures { result ≡ present_at plan.now r }
 {
@@ -169,7 +159,6 @@ pub fn present_at(plan: &[u32], r: u32) -> u32
 }
 
 // The mask of the ports that a rule requires absent.
-#[tactic(auto, unfolding(crate::specs::Layout::absent_at))]
 pub fn absent_at(plan: &[u32], r: u32) -> u32
     ensures { result ≡ absent_at plan.now r }
 {
@@ -183,7 +172,6 @@ pub struct Masks {
     pub absent: u32,
 }
 
-#[tactic(auto, unfolding(crate::specs::Layout::present_at, crate::specs::Layout::absent_at))]
 pub fn masks_in(plan: &[u32], from: usize, r: u32) -> Masks
     requires { (from ≡ rules_from plan.now) × (from < farthest) }
     ensures { (result.present ≡ present_at plan.now r) × (result.absent ≡ absent_at plan.now r) }
@@ -195,7 +183,6 @@ pub fn masks_in(plan: &[u32], from: usize, r: u32) -> Masks
 }
 
 // The length of a rule's code.
-#[tactic(auto, unfolding(crate::specs::Layout::length_at))]
 pub fn length_at(plan: &[u32], r: u32) -> u32
     ensures { result ≡ length_at plan.now r }
 {
@@ -210,7 +197,6 @@ pub fn code_before(plan: &[u32], r: u32) -> usize
     sum(plan, rules_from(plan) + 3, 3, r)
 }
 
-#[tactic(auto, unfolding(crate::specs::Layout::code_from))]
 pub fn code_from(plan: &[u32]) -> usize
     ensures { (result ≡ code_from plan.now) × (result < 137438953472) }
 {
@@ -238,7 +224,6 @@ pub fn code_at(plan: &[u32], r: u32) -> Stretch
     }
 }
 
-#[tactic(auto, unfolding(crate::specs::Layout::code_count))]
 pub fn code_count(plan: &[u32]) -> u32
     ensures { result ≡ code_count plan.now }
 {

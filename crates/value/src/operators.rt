@@ -1,4 +1,6 @@
 // The operators of 4.8.3 that stand before an operand or between two.
+#![tactic(auto, unfolding(language::specs::Values::divide_of, language::specs::Values::remainder_of, language::specs::Values::left_of, language::specs::Values::right_of, language::specs::Values::binary_width, language::specs::Values::unary_width))]
+
 ghost use Rattle.std.specs.Prelude.{◌≡◌, ◌^◌, ◌<◌, ◌≤◌};
 ghost use Rattle.language.specs.Values.{add_of, subtract_of, divide_of, remainder_of, left_of, right_of, binary_width, binary_value, unary_width, unary_value};
 ghost use Rattle.bits.specs.Fits.{BinaryFits, UnaryFits};
@@ -11,7 +13,7 @@ fn add(w: u32, a: u64, b: u64) -> u64
     requires { w ≤ 64 }
     ensures { result ≡ add_of w a b }
 {
-    low(std::num::wrapping_add_u64(a, b), w)
+    low(a.wrapping_add(b), w)
 }
 
 // Wraps on purpose at 64 bits, and then at w.
@@ -20,11 +22,10 @@ fn subtract(w: u32, a: u64, b: u64) -> u64
     requires { (w ≤ 64) × (b < 2 ^ w) }
     ensures { result ≡ subtract_of w a b }
 {
-    low(std::num::wrapping_sub_u64(a, b), w)
+    low(a.wrapping_sub(b), w)
 }
 
 // By zero all ones.
-#[tactic(auto, unfolding(language::specs::Values::divide_of))]
 fn divide(w: u32, a: u64, b: u64) -> u64
     requires { w ≤ 64 }
     ensures { result ≡ divide_of w a b }
@@ -33,7 +34,6 @@ fn divide(w: u32, a: u64, b: u64) -> u64
 }
 
 // By zero the left operand.
-#[tactic(auto, unfolding(language::specs::Values::remainder_of))]
 fn remainder(a: u64, b: u64) -> u64
     ensures { result ≡ remainder_of a b }
 {
@@ -41,7 +41,6 @@ fn remainder(a: u64, b: u64) -> u64
 }
 
 // The amount may be any number, so it is tested before the machine shifts.
-#[tactic(auto, unfolding(language::specs::Values::left_of))]
 fn left(w: u32, a: u64, amount: u64) -> u64
     requires { w ≤ 64 }
     ensures { result ≡ left_of w a amount }
@@ -54,16 +53,18 @@ fn left(w: u32, a: u64, amount: u64) -> u64
 }
 
 // Tested as for `left`; what passes the right end is lost.
-#[tactic(auto, unfolding(language::specs::Values::right_of))]
 fn right(w: u32, a: u64, amount: u64) -> u64
     requires { w ≤ 64 }
     ensures { result ≡ right_of w a amount }
 {
-    if u64::from(w) <= amount { 0 } else { a >> amount }
+    if u64::from(w) <= amount {
+        0
+    } else {
+        a >> amount
+    }
 }
 
 // The width of what an operator between widths m and n gives.
-#[tactic(auto, unfolding(language::specs::Values::binary_width))]
 pub fn binary_width(op: Binary, m: u32, n: u32) -> u32
     requires { (m ≤ 64) × (n ≤ 64) }
     ensures { result ≡ binary_width op m n }
@@ -113,7 +114,6 @@ pub fn binary(op: Binary, m: u32, n: u32, a: u64, b: u64) -> u64
 }
 
 // The width of what an operator before width w gives.
-#[tactic(auto, unfolding(language::specs::Values::unary_width))]
 pub fn unary_width(op: Unary, w: u32) -> u32
     ensures { result ≡ unary_width op w }
 {

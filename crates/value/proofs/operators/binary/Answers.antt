@@ -1,6 +1,6 @@
 -- `value::operators::binary` meets its contract: each arm is told the operator. Assumes nothing.
-use Rattle.std.proofs.Common.{◌≡◌, ℕ, ◌+◌, ◌*◌, ◌^◌, ◌<◌, ◌≤◌, max, sym, refl, ap, ◌∙◌, subst, ap₂, arith}
-use lib.Bits.{bit_and, bit_or, bit_xor, and_lt, or_lt, xor_lt}
+use Rattle.std.proofs.Common.{◌≡◌, ℕ, ◌+◌, ◌*◌, ◌^◌, ◌<◌, ◌≤◌, max, sym, ap, ◌∙◌, subst, ap₂, arith}
+use lib.Bits.{bit_and, bit_or, bit_xor, or_lt, xor_lt}
 use Rattle.language.specs.Values.{complement, binary_width, binary_value, and_of, or_of, xor_of}
 use Rattle.language.specs.declared.Binary.{Binary}
 use Rattle.language.specs.declared.Binary.TheVariants.{Multiply}
