@@ -3,7 +3,7 @@
 // What goes out: one number for each, the one that `language`'s specs/Values.antt defines.
 #![tactic(auto)]
 
-ghost use Rattle.std.specs.Prelude.{◌≡◌, ◌-◌, ◌%◌, ◌^◌, ◌≤◌, ◌<◌, max};
+ghost use Rattle.std.specs.Prelude.{◌≡◌, ◌-◌, ◌%◌, ◌^◌, ◌≤◌, ◌<◌};
 ghost use Rattle.language.specs.Values.{ones_of, one_bit};
 ghost use Rattle.language.specs.Values.{complement as values_complement, plain_width as values_plain_width};
 ghost use Rattle.bits.specs.Masks.{matches_of};
@@ -32,24 +32,19 @@ pub fn complement(w: u32, a: u64) -> u64
 }
 
 // A truth as a number of one bit.
+#[tactic(auto, unfolding(language::specs::Values::one_bit))]
 pub fn one_bit(holds: bool) -> u64
     ensures { result ≡ one_bit holds }
 {
-    if holds { 1 } else { 0 }
-}
-
-// The greater of two widths.
-pub fn wider(m: u32, n: u32) -> u32
-    ensures { result ≡ max m n }
-{
-    if m < n { n } else { m }
+    u64::from(holds)
 }
 
 // 1 where the ones among a's bits are odd in number.
+#[tactic(auto, using(crate::proofs::Counts::ones_are))]
 pub fn odd(a: u64) -> u64
     ensures { result ≡ ones_of 64 a % 2 }
 {
-    (u64::count_ones(a) % 2) as u64
+    u64::from(a.count_ones() % 2)
 }
 
 // The fewest bits that hold n, at least 1.
@@ -59,18 +54,20 @@ pub fn plain_width(n: u64) -> u32
     if n == 0 {
         1
     } else {
-        64 - u64::leading_zeros(n)
+        64 - n.leading_zeros()
     }
 }
 
 // How many ports a mask has present.
+#[tactic(auto, using(crate::proofs::Counts::ones_are))]
 pub fn present(mask: u32) -> u32
     ensures { result ≡ ones_of 32 mask }
 {
-    u32::count_ones(mask)
+    mask.count_ones()
 }
 
 // A rule matches: its ports required present are in the mask, and none required absent is.
+#[tactic(auto, using(crate::proofs::Sets::tests_tell), unfolding(crate::specs::Masks::matches_of))]
 pub fn matches(mask: u32, present: u32, absent: u32) -> bool
     ensures { result ≡ matches_of mask present absent }
 {

@@ -3,8 +3,10 @@
 // and in specs/ what an actor text with its bindings means.
 #![tactic(auto)]
 
-ghost use Rattle.std.specs.Prelude.{◌≡◌};
+ghost use Rattle.std.specs.Prelude.{◌≡◌, ◌≤◌, [], ◌∷◌, slice_get, MatchResult, Some};
 ghost use Rattle.language.specs.Limits.{limits};
+ghost use Rattle.language.specs.declared.Unary.TheVariants.{Invert, Plus, Not, All, NotAll, Any, NotAny, Odd, NotOdd};
+ghost use Rattle.language.specs.declared.Binary.TheVariants.{Multiply, Divide, Remainder, Add, Subtract, Left, Right, Less, AtMost, Greater, AtLeast, Equal, Unequal, And, NotAnd, Xor, NotXor, Or, NotOr, Both, Either};
 
 // The two texts that a place may stand in.
 #[derive(Clone, Copy)]
@@ -51,6 +53,64 @@ pub enum Binary {
     NotOr,
     Both,
     Either,
+}
+
+// A number that no operator has: they are numbered as they stand above.
+#[derive(Clone, Copy)]
+pub struct NoOperator(pub u32);
+
+impl TryFrom<u32> for Unary {
+    type Error = NoOperator;
+
+    ghost try_from_gives = { λ n r. MatchResult r (λ u. slice_get (Invert ∷ Plus ∷ Not ∷ All ∷ NotAll ∷ Any ∷ NotAny ∷ Odd ∷ NotOdd ∷ []) n ≡ Some u) (λ e. (e.0 ≡ n) × (9 ≤ n)) };
+
+    fn try_from(n: u32) -> Result<Self, NoOperator> {
+        match n {
+            0 => Ok(Unary::Invert),
+            1 => Ok(Unary::Plus),
+            2 => Ok(Unary::Not),
+            3 => Ok(Unary::All),
+            4 => Ok(Unary::NotAll),
+            5 => Ok(Unary::Any),
+            6 => Ok(Unary::NotAny),
+            7 => Ok(Unary::Odd),
+            8 => Ok(Unary::NotOdd),
+            _ => Err(NoOperator(n)),
+        }
+    }
+}
+
+impl TryFrom<u32> for Binary {
+    type Error = NoOperator;
+
+    ghost try_from_gives = { λ n r. MatchResult r (λ o. slice_get (Multiply ∷ Divide ∷ Remainder ∷ Add ∷ Subtract ∷ Left ∷ Right ∷ Less ∷ AtMost ∷ Greater ∷ AtLeast ∷ Equal ∷ Unequal ∷ And ∷ NotAnd ∷ Xor ∷ NotXor ∷ Or ∷ NotOr ∷ Both ∷ Either ∷ []) n ≡ Some o) (λ e. (e.0 ≡ n) × (21 ≤ n)) };
+
+    fn try_from(n: u32) -> Result<Self, NoOperator> {
+        match n {
+            0 => Ok(Binary::Multiply),
+            1 => Ok(Binary::Divide),
+            2 => Ok(Binary::Remainder),
+            3 => Ok(Binary::Add),
+            4 => Ok(Binary::Subtract),
+            5 => Ok(Binary::Left),
+            6 => Ok(Binary::Right),
+            7 => Ok(Binary::Less),
+            8 => Ok(Binary::AtMost),
+            9 => Ok(Binary::Greater),
+            10 => Ok(Binary::AtLeast),
+            11 => Ok(Binary::Equal),
+            12 => Ok(Binary::Unequal),
+            13 => Ok(Binary::And),
+            14 => Ok(Binary::NotAnd),
+            15 => Ok(Binary::Xor),
+            16 => Ok(Binary::NotXor),
+            17 => Ok(Binary::Or),
+            18 => Ok(Binary::NotOr),
+            19 => Ok(Binary::Both),
+            20 => Ok(Binary::Either),
+            _ => Err(NoOperator(n)),
+        }
+    }
 }
 
 // The exact value of a type: `up` less `down`, and the logarithm of `a` less that of `b`.

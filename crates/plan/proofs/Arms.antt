@@ -1,7 +1,6 @@
 -- What an arm of a `match` knows of an item: the last one, that it is none of those named before; one of sound code, that it is not bad. Assumes nothing.
 use mathlib.Core.Path.{◌≡◌, refl, sym, ◌∙◌}
 use mathlib.Core.Bool.{Bool, true, false}
-use mathlib.Core.List.{List, [], ◌∷◌}
 use Prim.Native.Nat.{ℕ}
 use lib.Dec.{eqb}
 use Rattle.plan.specs.declared.Item.{Item}

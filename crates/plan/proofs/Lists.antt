@@ -2,19 +2,26 @@
 use Prim.Native.Nat.{ℕ, zero, suc, ◌+◌, ◌*◌, ◌%◌, ◌^◌, ◌≤◌, ◌<◌}
 use mathlib.Core.Path.{◌≡◌, refl, sym, ap, ap₂, ◌∙◌}
 use mathlib.Core.List.{List, [], ◌∷◌}
-use mathlib.Core.Bool.{Bool, true, false}
+use mathlib.Core.Bool.{true}
 use native.Mathlib.Numerals.{add-one}
+use Rattle.std.specs.Prelude.{slice_get, Some, map}
+use Rattle.std.proofs.lemmas.Option.{get_or_from_slice_get, slice_get-map}
+use Rattle.std.specs.Option.{option_map}
 use native.Mathlib.Nat.{add-zero, lt_of_lt_of_le, one-mul, mod-eq_of_lt, div-eq_of_lt, mul-suc}
 use native.Mathlib.Omega.{arith}
 use lib.ListN.{length, get_or, drop, take, length-drop, get_or-eq_default}
 use lib.Seq.{drop-drop, get_or-drop}
 use lib.Dec.{ltb}
 use lib.Pow.{pow-lt, pow_mono}
-use borrow.Author.Tests.{lt-ltb, eq-eqb, ne_eqb}
+use borrow.Author.Tests.{lt-ltb}
 use Rattle.language.specs.Values.{bit_of}
+use Rattle.language.specs.declared.Unary.{Unary}
+use Rattle.language.specs.declared.Unary.TheVariants.{Invert, Plus, Not, All, NotAll, Any, NotAny, Odd, NotOdd}
+use Rattle.language.specs.declared.Binary.{Binary}
+use Rattle.language.specs.declared.Binary.TheVariants.{Multiply, Divide, Remainder, Add, Subtract, Left, Right, Less, AtMost, Greater, AtLeast, Equal, Unequal, And, NotAnd, Xor, NotXor, Or, NotOr, Both, Either}
 use Rattle.plan.specs.declared.Item.{Item}
 use Rattle.plan.specs.declared.Item.TheVariants.{Const, Port, Let, Cell, Range, Copies, Beside, Before, Between, Choice, Arm, Keep, Assign, Write, Bad}
-use Rattle.plan.specs.Items.{encode, decode, decode_all, unary_item, unary_items, binary_item, binary_items, items_of, unused}
+use Rattle.plan.specs.Items.{encode, decode, decode_all, unary_item, unary_items, binary_item, binary_items, items_of}
 use Rattle.plan.specs.Layout.{memories_from, memory_size_at, cells_before, groups_from, group_at, rules_before, rules_from, length_at, code_before}
 use Rattle.plan.specs.Items.{item_at}
 use Rattle.plan.specs.Layout.{sum_of}
@@ -32,6 +39,25 @@ unary_past a w h = get_or-eq_default (unary_items w) Bad h
 pub binary_past : (a m n : ℕ) → 21 ≤ a → binary_item a m n ≡ Bad
 unfolding binary_item
 binary_past a m n h = get_or-eq_default (binary_items m n) Bad h
+
+-- what stands at a place of a list is, in a list made of it, what is made of it
+named : {A B : Type 0} (f : A → B) (xs : List A) (n : ℕ) (d : B) {x : A} → slice_get xs n ≡ Some x → f x ≡ get_or (map f xs) n d
+named f xs n d {x} e = sym (get_or_from_slice_get (map f xs) n (f x) d (slice_get-map f xs n ∙ ap (option_map f) e))
+
+-- the operators in the order of their numbers, as `language`'s conversions name them
+abbrev pub unaries : List Unary
+unaries = Invert ∷ Plus ∷ Not ∷ All ∷ NotAll ∷ Any ∷ NotAny ∷ Odd ∷ NotOdd ∷ []
+
+abbrev pub binaries : List Binary
+binaries = Multiply ∷ Divide ∷ Remainder ∷ Add ∷ Subtract ∷ Left ∷ Right ∷ Less ∷ AtMost ∷ Greater ∷ AtLeast ∷ Equal ∷ Unequal ∷ And ∷ NotAnd ∷ Xor ∷ NotXor ∷ Or ∷ NotOr ∷ Both ∷ Either ∷ []
+
+pub unary_named : (a w : ℕ) {u : Unary} → slice_get unaries a ≡ Some u → Before u w ≡ unary_item a w
+unfolding unary_item
+unary_named a w e = named (λ (u : Unary). Before u w) unaries a Bad e
+
+pub binary_named : (a m n : ℕ) {o : Binary} → slice_get binaries a ≡ Some o → Between o m n ≡ binary_item a m n
+unfolding binary_item
+binary_named a m n e = named (λ (o : Binary). Between o m n) binaries a Bad e
 
 -- what the default of a `match` on 0, 1, .., n - 1 knows: x is at least n
 abbrev pub Nots : ℕ → ℕ → Type 0
@@ -77,12 +103,6 @@ sum_next p from step i = rw (add-one i)
 
 pub place_next : (at from step i : ℕ) → at ≡ from + step * i → at + step ≡ from + step * (i + 1)
 place_next at from step i e = rw (add-one i, mul-suc step i) (omega arith)
-
-pub unused_yes : (n : ℕ) (i : Item) → n ≡ 0 → i ≡ unused n i
-unused_yes n i e = sym (ap (λ (b : Bool). elim b [ true ↦ i | false ↦ Bad ]) (eq-eqb n 0 e))
-
-pub unused_no : (n : ℕ) (i : Item) → (n ≡ 0 → ⊥) → Bad ≡ unused n i
-unused_no n i e = sym (ap (λ (b : Bool). elim b [ true ↦ i | false ↦ Bad ]) (ne_eqb n 0 e))
 
 pub cells_sum : (p : List ℕ) (m : ℕ) → sum_of p (memories_from p + 2) 2 m ≡ cells_before p m
 unfolding sum_of cells_before memory_size_at

@@ -3,7 +3,6 @@ use Rattle.std.specs.Prelude.{Bool, true, false, List, [], ◌∷◌, ℕ, ◌+�
 use Rattle.language.specs.declared.Unary.TheVariants.{Invert, Plus, Not, All, NotAll, Any, NotAny, Odd, NotOdd}
 use Rattle.language.specs.declared.Binary.TheVariants.{Multiply, Divide, Remainder, Add, Subtract, Left, Right, Less, AtMost, Greater, AtLeast, Equal, Unequal, And, NotAnd, Xor, NotXor, Or, NotOr, Both, Either}
 pub use Rattle.value.specs.Numbers.{unary_number, binary_number}
-use Rattle.plan.specs.declared.Four.{Four}
 use Rattle.plan.specs.declared.Item.{Item}
 use Rattle.plan.specs.declared.Item.TheVariants.{Const, Port, Let, Cell, Range, Copies, Beside, Before, Between, Choice, Arm, Keep, Assign, Write, Bad}
 
@@ -12,9 +11,6 @@ use Rattle.plan.specs.declared.Item.TheVariants.{Const, Port, Let, Cell, Range, 
 -- each item is four numbers
 abbrev four : ℕ → ℕ → ℕ → ℕ → List ℕ
 four o a b c = o ∷ a ∷ b ∷ c ∷ []
-
-abbrev pub numbers_of : Four → List ℕ
-numbers_of f = four f.op f.a f.b f.c
 
 -- no number is that of `Bad`: 15 is free
 abbrev pub encode : Item → List ℕ

@@ -1,4 +1,6 @@
 // Where the numbers of a plan stand, and what stands there.
+#![tactic(auto, unfolding(crate::specs::Layout::memories_from, crate::specs::Layout::memory_count, crate::specs::Layout::memory_width_at, crate::specs::Layout::memory_size_at, crate::specs::Layout::groups_from, crate::specs::Layout::group_count, crate::specs::Layout::group_at, crate::specs::Layout::rules_from, crate::specs::Layout::rule_count, crate::specs::Layout::present_at, crate::specs::Layout::absent_at, crate::specs::Layout::length_at, crate::specs::Layout::code_from, crate::specs::Layout::code_count))]
+
 ghost use Rattle.std.specs.Prelude.{◌≡◌, ◌+◌, ◌*◌, ◌^◌, ◌≤◌, ◌<◌, ltb, length, get_or};
 ghost use Rattle.language.specs.Values.{bit_of};
 ghost use Rattle.plan.specs.Layout.{port_count, port_at, memories_from, memory_count, memory_width_at, memory_size_at, cells_before, groups_from, group_count, group_at, rules_before, rules_from, rule_count, present_at, absent_at, length_at, code_before, code_from, code_count};
@@ -14,6 +16,7 @@ pub fn place(x: u32) -> usize
 }
 
 // Bit k of a mask, 0 past its end.
+#[tactic(auto, using(crate::proofs::Lists::bit_past), unfolding(language::specs::Values::bit_of))]
 pub fn bit(a: u32, k: u32) -> u32
     ensures { result ≡ bit_of a k }
 {
@@ -21,31 +24,31 @@ pub fn bit(a: u32, k: u32) -> u32
 }
 
 // A value fits a width.
+#[tactic(auto, using(crate::proofs::Lists::fits_past, crate::proofs::Lists::one_shl))]
 pub fn within(x: u64, w: u32) -> bool
     ensures { result ≡ ltb x (2 ^ w) }
 {
-    if w < 64 { x < 1u64 << w } else { true }
+    w >= 64 || x < 1 << w
 }
 
 // A number of the plan, 0 past its end.
 pub fn number(plan: &[u32], at: usize) -> u32
     ensures { result ≡ get_or plan.now at 0 }
 {
-    if at < plan.len() { plan[at] } else { 0 }
+    plan.get(at).copied().unwrap_or(0)
 }
 
 // The sum of n numbers of the plan, each `step` places after the one before.
+#[tactic(auto, using(crate::proofs::Lists::sum_next, crate::proofs::Lists::place_next), unfolding(crate::specs::Layout::sum_of))]
 fn sum(plan: &[u32], from: usize, step: usize, n: u32) -> usize
     requires { (from < 137438953472) × (step ≤ 3) }
     ensures { (result ≡ sum_of plan.now from step n) × (result ≤ greatest * n) }
 {
-    let mut total = 0usize;
+    let mut total = 0;
     let mut at = from;
-    let mut i = 0u32;
-    while i < n {
+    for _i in 0..n {
         total += place(number(plan, at));
         at += step;
-        i += 1;
     }
     total
 }
@@ -87,6 +90,7 @@ pub fn memory_size(plan: &[u32], m: u32) -> u32
 }
 
 // The cells of the first m memories.
+#[tactic(auto, using(crate::proofs::Lists::cells_sum))]
 pub fn cells_before(plan: &[u32], m: u32) -> usize
     ensures { (result ≡ cells_before plan.now m) × (result ≤ greatest * m) }
 {
@@ -128,6 +132,7 @@ pub fn groups_in(plan: &[u32], from: usize) -> u32
 }
 
 // The rules of the first g groups.
+#[tactic(auto, using(crate::proofs::Lists::rules_sum))]
 pub fn rules_before(plan: &[u32], g: u32) -> usize
     ensures { (result ≡ rules_before plan.now g) × (result ≤ greatest * g) }
 {
@@ -185,6 +190,7 @@ pub fn length_at(plan: &[u32], r: u32) -> u32
 }
 
 // The numbers of code of the first r rules.
+#[tactic(auto, using(crate::proofs::Lists::code_sum))]
 pub fn code_before(plan: &[u32], r: u32) -> usize
     ensures { (result ≡ code_before plan.now r) × (result ≤ greatest * r) }
 {
@@ -204,6 +210,7 @@ pub struct Stretch {
     pub length: u32,
 }
 
+#[tactic(auto, using(crate::proofs::Lists::code_sum), unfolding(crate::specs::Layout::code_from, crate::specs::Layout::rule_count, crate::specs::Layout::length_at))]
 pub fn code_at(plan: &[u32], r: u32) -> Stretch
     requires { code_from plan.now + 1 + code_before plan.now r ≤ length plan.now }
     ensures { (result.from ≡ code_from plan.now + 1 + code_before plan.now r) × (result.length ≡ length_at plan.now r) }

@@ -30,7 +30,7 @@ pub const MASK_BITS: u32 = 32;
 // In a table of the slots' widths, that of a slot not kept: no width, 64 at most, is as large. A lent table holds numbers alone.
 pub const UNSET: u32 = 99;
 
-// One item of a rule's code, as docs/PLAN.md numbers them.
+// One item of a rule's code, as docs/PLAN.md numbers them. `Bad` is no item: it is a variant and no `None`, since `decode` and `check1` of specs/, and `fetch`'s contract, are of items.
 #[derive(Clone, Copy)]
 pub enum Item {
     Const(u32, u32, u32),
@@ -48,13 +48,4 @@ pub enum Item {
     Assign(u32),
     Write(u32, u32, u32),
     Bad,
-}
-
-// An item as numbers: its operation and three operands.
-#[derive(Clone, Copy)]
-struct Four {
-    op: u32,
-    a: u32,
-    b: u32,
-    c: u32,
 }

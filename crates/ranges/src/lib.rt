@@ -12,6 +12,7 @@ ghost use Rattle.bits.specs.Reversal.{reversed_of};
 use bits::low;
 
 // a above b, which has n bits.
+#[tactic(auto, using(bits::proofs::Laws::above), unfolding(language::specs::Values::beside_of))]
 pub fn beside(n: u32, a: u64, b: u64) -> u64
     requires { beside_of n a b < 2 ^ 64 }
     ensures { result ≡ beside_of n a b }
@@ -24,21 +25,20 @@ pub fn copies(k: u32, w: u32, a: u64) -> u64
     requires { CopiesFit k w a }
     ensures { result ≡ copies_of k w a }
 {
-    let mut r = 0u64;
-    let mut i = 0u32;
-    while i < k {
+    let mut r = 0;
+    for _i in 0..k {
         r = beside(w, r, a);
-        i += 1;
     }
     r
 }
 
 // The width of `[i:j]`.
+#[tactic(auto, unfolding(language::specs::Values::range_width))]
 pub fn range_width(i: u32, j: u32) -> u32
     requires { (i < 64) × (j < 64) }
     ensures { result ≡ range_width i j }
 {
-    if j <= i { i - j + 1 } else { j - i + 1 }
+    i.abs_diff(j) + 1
 }
 
 // The w low bits of a, the lowest first.
@@ -46,18 +46,15 @@ fn reversed(w: u32, a: u64) -> u64
     requires { w ≤ 64 }
     ensures { result ≡ reversed_of w a }
 {
-    let mut r = 0u64;
-    let mut x = a;
-    let mut k = 0u32;
-    while k < w {
-        r = beside(1, r, x % 2);
-        x /= 2;
-        k += 1;
+    let mut r = 0;
+    for k in 0..w {
+        r = beside(1, r, (a >> k) % 2);
     }
     r
 }
 
 // The bits i down to j of a, or i up to j the other way round.
+#[tactic(auto, using(crate::proofs::Fits::range_within, crate::proofs::Parts::range_down, crate::proofs::Parts::range_up))]
 pub fn range(a: u64, i: u32, j: u32) -> u64
     requires { (i < 64) × (j < 64) }
     ensures { result ≡ range_of a i j }
@@ -71,6 +68,7 @@ pub fn range(a: u64, i: u32, j: u32) -> u64
 }
 
 // a where c is true, else b.
+#[tactic(auto, unfolding(language::specs::Values::chosen, language::specs::Values::truth))]
 pub fn chosen(c: u64, a: u64, b: u64) -> u64
     ensures { result ≡ values_chosen c a b }
 {

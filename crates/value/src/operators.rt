@@ -1,9 +1,11 @@
 // The operators of 4.8.3 that stand before an operand or between two.
+#![tactic(auto, unfolding(language::specs::Values::divide_of, language::specs::Values::remainder_of, language::specs::Values::left_of, language::specs::Values::right_of, language::specs::Values::binary_width, language::specs::Values::unary_width))]
+
 ghost use Rattle.std.specs.Prelude.{◌≡◌, ◌^◌, ◌<◌, ◌≤◌};
 ghost use Rattle.language.specs.Values.{add_of, subtract_of, divide_of, remainder_of, left_of, right_of, binary_width, binary_value, unary_width, unary_value};
 ghost use Rattle.bits.specs.Fits.{BinaryFits, UnaryFits};
 
-use bits::{all_ones, complement, low, odd, one_bit, wider};
+use bits::{all_ones, complement, low, odd, one_bit};
 use language::{Binary, Unary};
 
 // Wraps on purpose at 64 bits, and then at w.
@@ -11,15 +13,16 @@ fn add(w: u32, a: u64, b: u64) -> u64
     requires { w ≤ 64 }
     ensures { result ≡ add_of w a b }
 {
-    low(std::num::wrapping_add_u64(a, b), w)
+    low(a.wrapping_add(b), w)
 }
 
 // Wraps on purpose at 64 bits, and then at w.
+#[tactic(auto, using(bits::proofs::Laws::minus), unfolding(language::specs::Values::subtract_of))]
 fn subtract(w: u32, a: u64, b: u64) -> u64
     requires { (w ≤ 64) × (b < 2 ^ w) }
     ensures { result ≡ subtract_of w a b }
 {
-    low(std::num::wrapping_sub_u64(a, b), w)
+    low(a.wrapping_sub(b), w)
 }
 
 // By zero all ones.
@@ -42,7 +45,7 @@ fn left(w: u32, a: u64, amount: u64) -> u64
     requires { w ≤ 64 }
     ensures { result ≡ left_of w a amount }
 {
-    if w as u64 <= amount {
+    if u64::from(w) <= amount {
         0
     } else {
         low(a << amount, w)
@@ -54,7 +57,11 @@ fn right(w: u32, a: u64, amount: u64) -> u64
     requires { w ≤ 64 }
     ensures { result ≡ right_of w a amount }
 {
-    if w as u64 <= amount { 0 } else { a >> amount }
+    if u64::from(w) <= amount {
+        0
+    } else {
+        a >> amount
+    }
 }
 
 // The width of what an operator between widths m and n gives.
@@ -62,38 +69,25 @@ pub fn binary_width(op: Binary, m: u32, n: u32) -> u32
     requires { (m ≤ 64) × (n ≤ 64) }
     ensures { result ≡ binary_width op m n }
 {
-    let w = wider(m, n);
     match op {
         Binary::Multiply => m + n,
-        Binary::Divide => m,
-        Binary::Remainder => m,
-        Binary::Add => w,
-        Binary::Subtract => w,
-        Binary::Left => m,
-        Binary::Right => m,
-        Binary::Less => 1,
-        Binary::AtMost => 1,
-        Binary::Greater => 1,
-        Binary::AtLeast => 1,
-        Binary::Equal => 1,
-        Binary::Unequal => 1,
-        Binary::And => w,
-        Binary::NotAnd => w,
-        Binary::Xor => w,
-        Binary::NotXor => w,
-        Binary::Or => w,
-        Binary::NotOr => w,
-        Binary::Both => 1,
-        Binary::Either => 1,
+        Binary::Divide | Binary::Remainder | Binary::Left | Binary::Right => m,
+        Binary::Add | Binary::Subtract => m.max(n),
+        Binary::And | Binary::NotAnd => m.max(n),
+        Binary::Xor | Binary::NotXor => m.max(n),
+        Binary::Or | Binary::NotOr => m.max(n),
+        Binary::Less | Binary::AtMost | Binary::Greater | Binary::AtLeast => 1,
+        Binary::Equal | Binary::Unequal | Binary::Both | Binary::Either => 1,
     }
 }
 
 // What an operator gives between a, of m bits, and b, of n.
+#[tactic(auto, unfolding(language::specs::Values::binary_value, language::specs::Values::truth))]
 pub fn binary(op: Binary, m: u32, n: u32, a: u64, b: u64) -> u64
     requires { BinaryFits op m n a b }
     ensures { result ≡ binary_value op m n a b }
 {
-    let w = wider(m, n);
+    let w = m.max(n);
     match op {
         Binary::Multiply => a * b,
         Binary::Divide => divide(m, a, b),
@@ -124,19 +118,14 @@ pub fn unary_width(op: Unary, w: u32) -> u32
     ensures { result ≡ unary_width op w }
 {
     match op {
-        Unary::Invert => w,
-        Unary::Plus => w,
-        Unary::Not => 1,
-        Unary::All => 1,
-        Unary::NotAll => 1,
-        Unary::Any => 1,
-        Unary::NotAny => 1,
-        Unary::Odd => 1,
-        Unary::NotOdd => 1,
+        Unary::Invert | Unary::Plus => w,
+        Unary::Not | Unary::All | Unary::NotAll | Unary::Any => 1,
+        Unary::NotAny | Unary::Odd | Unary::NotOdd => 1,
     }
 }
 
 // What an operator gives before a, of w bits.
+#[tactic(auto, using(bits::proofs::Counts::ones_within), unfolding(language::specs::Values::unary_value, language::specs::Values::truth))]
 pub fn unary(op: Unary, w: u32, a: u64) -> u64
     requires { UnaryFits w a }
     ensures { result ≡ unary_value op w a }

@@ -21,33 +21,32 @@ pub struct Asked {
 pub fn width(x: u64) -> u32
     ensures { result ≡ min x 4294967295 }
 {
-    if x < 4294967296 { x as u32 } else { 4294967295 }
+    u32::try_from(x).unwrap_or(u32::MAX)
 }
 
 // One digit more, where there is room for it.
 fn with_digit(x: u64, digit: u8) -> u64 {
-    let d = (digit % 10) as u64;
-    if x <= (18446744073709551615 - d) / 10 {
-        return x * 10 + d;
-    }
-    x
+    x.checked_mul(10)
+        .and_then(|tens| tens.checked_add(u64::from(digit % 10)))
+        .unwrap_or(x)
 }
 
 // The number at a place, and the place past the byte that ends it.
 fn number(s: &[u8], at: usize) -> Read
     ensures { (at ≤ result.next) × (min (at + 1) (length s.now) ≤ result.next) }
 {
-    let mut value = 0u64;
-    let mut i = at;
-    while i < s.len() {
+    let mut value = 0;
+    for i in at..s.len() {
         let byte = s[i];
-        if byte < 48 {
+        if byte < b'0' {
             return Read { value, next: i + 1 };
         }
-        value = with_digit(value, byte - 48);
-        i += 1;
+        value = with_digit(value, byte - b'0');
     }
-    Read { value, next: i }
+    Read {
+        value,
+        next: at.max(s.len()),
+    }
 }
 
 // The line at a place.

@@ -1,4 +1,4 @@
--- `value::bits::all_ones` meets its contract. Assumes nothing.
+-- `bits::all_ones` meets its contract. Assumes nothing.
 use mathlib.Core.Path.{◌∙◌}
 use Rattle.bits.proofs.Laws.{ones_cut}
 use Rattle.bits.proofs.all_ones.Goals as goal

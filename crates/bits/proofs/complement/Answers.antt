@@ -1,4 +1,4 @@
--- `value::bits::complement` meets its contract. Assumes nothing.
+-- `bits::complement` meets its contract. Assumes nothing.
 use mathlib.Core.Path.{◌∙◌}
 use Rattle.bits.proofs.Laws.{complement_cut}
 use Rattle.language.specs.Values.{complement}

@@ -1,4 +1,4 @@
--- `value::bits::low` meets its contract. Assumes nothing.
+-- `bits::low` meets its contract. Assumes nothing.
 use Rattle.bits.proofs.Laws.{mask_some, masked, whole}
 use Rattle.bits.proofs.low.Goals as goal
 

@@ -1,4 +1,4 @@
--- `value::bits::plain_width` meets its contract. Assumes nothing.
+-- `bits::plain_width` meets its contract. Assumes nothing.
 use mathlib.Core.Path.{ap, ◌∙◌}
 use native.Mathlib.Omega.{arith}
 use lib.Count.{leading_le}

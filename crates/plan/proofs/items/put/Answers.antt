@@ -1,21 +1,23 @@
 -- `plan::items::put` meets its contract: the four numbers are stored at the place. Assumes nothing.
-use mathlib.Core.Path.{ap}
-use mathlib.Core.List.{List}
-use Prim.Native.Nat.{ℕ}
+use Prim.Native.Nat.{ℕ, ◌+◌, ◌-◌, ◌≤◌}
 use native.Mathlib.Omega.{arith}
-use native.Mathlib.Numerals.{add-one, add-two, add-three}
-use lib.ListN.{length-set}
-use lib.Seq.{sets}
+use mathlib.Core.Path.{◌≡◌, sym, ap, ◌∙◌}
+use mathlib.Core.List.{List, ◌++◌, append_assoc}
+use borrow.Rule.Slice.PartMut.{put_mid}
+use lib.ListN.{length, take, drop}
+use lib.Seq.{sets, sets-eq, drop-drop}
+use Rattle.plan.specs.Items.{encode}
+use Rattle.plan.proofs.Lists.{four_long}
 use Rattle.plan.proofs.items.put.Goals as goal
 
-pub bounds-code-at-2 : goal.bounds-code-at-2
-bounds-code-at-2 c = simp length-set (omega arith)
-
-pub bounds-code-at-3 : goal.bounds-code-at-3
-bounds-code-at-3 c = simp length-set (omega arith)
-
-pub bounds-code-at-4 : goal.bounds-code-at-4
-bounds-code-at-4 c = simp length-set (omega arith)
+stored : (l vs : List ℕ) (i k : ℕ) → k ≡ length vs → i + length vs ≤ length l → put_mid i k l vs ≡ sets l i vs
+stored l vs i k e h =
+    sym (sets-eq vs l i h ∙ append_assoc (take i l) vs (drop (i + length vs) l)
+    ∙ ap (λ (r : List ℕ). take i l ++ (vs ++ r)) (sym (drop-drop (length vs) i l) ∙ ap (λ (n : ℕ). drop n (drop i l)) (sym e)))
 
 pub returns : goal.returns
-returns c = rw (add-one, add-two, add-three) (ap (λ (l : List ℕ). sets c.args.code.now c.args.at l) c.encoded-f.ensures)
+returns c =
+    let args = c.args in
+    let e : c.copy_from_slice.new.self ≡ encode args.item = c.copy_from_slice.ensures.after ∙ c.encoded.ensures in
+    let f = four_long args.item in
+    ap (put_mid args.at (args.at + 4 - args.at) args.code.now) e ∙ stored args.code.now (encode args.item) args.at (args.at + 4 - args.at) (omega (arith, f)) (omega (arith, f))

@@ -1,9 +1,9 @@
 -- `value::operators::add` meets its contract. Assumes nothing.
-use Rattle.std.proofs.Common.{ℕ, ◌+◌, ◌%◌, ◌^◌, ap, ◌∙◌}
+use Rattle.std.proofs.Common.{◌+◌, ◌∙◌}
 use Rattle.language.specs.Values.{add_of}
 use Rattle.bits.proofs.Laws.{again}
 use Rattle.value.proofs.operators.add.Goals as goal
 
 pub returns : goal.returns
 unfolding add_of
-returns c = c.low.ensures ∙ ap (λ (x : ℕ). x % 2 ^ c.args.w) c.wrapping_add_u64.ensures.value ∙ again (c.args.a + c.args.b) 64 c.args.w c.requires
+returns c = c.low.ensures ∙ again (c.args.a + c.args.b) 64 c.args.w c.requires
