@@ -153,7 +153,7 @@ module _ {text : List ℕ} {most : ℕ} {what : Got ℕ} {r : Step} (w : Reads t
   number_lost e = w.tells ∙ rw e
 
 -- what the exit of a `?` answers
-pub exit : {T : Type 0} {r : Result T Lost} {l : Lost} → IsErrAnd r (λ e. e ≡ l) → r ≡ Err l
+pub exit : {T E : Type 0} {r : Result T E} {l : E} → IsErrAnd r (λ e. e ≡ l) → r ≡ Err l
 exit {r = r} h = let p = err_from_is_err_and r h in p.1 ∙ rw p.2
 
 pub after_got : {S T : Type 0} {what : Got S} {s : S} {x : List ℕ} (g : S → List ℕ → Got T) → what ≡ got s x → after what g ≡ g s x
