@@ -1,11 +1,12 @@
 -- Laws of the names of the bindings text, each at a place of the text, and of the names of the lines before. Assumes nothing.
-use mathlib.Core.Path.{◌≡◌, refl, sym, ◌∙◌}
-use mathlib.Core.Bool.{Bool, true, false, not, ◌&&◌}
+use mathlib.Core.Path.{◌≡◌, refl, sym, ap, ◌∙◌}
+use mathlib.Core.Bool.{Bool, true, false, not, ◌&&◌, ◌||◌}
 use mathlib.Core.List.{List, [], ◌∷◌, ◌++◌}
-use Prim.Native.Nat.{ℕ, suc, ◌+◌, ◌-◌, ◌*◌, ◌≤◌, ◌<◌}
+use Prim.Native.Nat.{ℕ, zero, suc, ◌+◌, ◌-◌, ◌*◌, ◌≤◌, ◌<◌}
 use native.Mathlib.Omega.{arith}
 use native.Mathlib.Numerals.{add-one}
-use lib.Dec.{leb}
+use native.Mathlib.Nat.{add-zero}
+use lib.Dec.{leb, eqb}
 use lib.ListN.{length, take, drop, get_or, drop_of_length-le, length-drop, length-take}
 use lib.Seq.{drop-cons, take-suc, get_or-drop}
 use borrow.Author.Tests.{lt-ltb, le-ltb, eq-eqb, ne_eqb, leb-true, leb-false}
@@ -13,6 +14,8 @@ use Rattle.language.specs.Text.{same, among}
 use Rattle.language.specs.Words.{digit, name_byte, good_name}
 use Rattle.language.specs.Bindings.{got, lost, may_end, may_go_on, name_from, fresh_name}
 use Rattle.binding_names.specs.Names.{line_in, lines_in, names_of}
+use Rattle.std.specs.List.{list_any, range_with_len}
+use Rattle.std.specs.Cmp.Lexicographic.{pointwise}
 use Rattle.spelling.proofs.Laws.{never}
 
 -- ---- what stands at a place of a text
@@ -57,9 +60,6 @@ module _ (text : List ℕ) (from n : ℕ) (h : from + n < length text) where
 pub run_length : (text : List ℕ) (from n : ℕ) → from + n ≤ length text → length (take n (drop from text)) ≡ n
 run_length text from n h = simp (length-take, length-drop) (omega arith)
 
-pub both_false : (a b : Bool) → a ≡ false → (a && b) ≡ false
-both_false a b e = simp e
-
 pub both_is : (a b : Bool) → a ≡ true → (a && b) ≡ b
 both_is a b e = simp e
 
@@ -98,27 +98,39 @@ goes_most seen s e = go (leb (length s) 31) refl
 
 -- ---- the names of the lines before
 
-among_first : (n s : List ℕ) (ns : List (List ℕ)) → same n s ≡ true → among (n ∷ ns) s ≡ true
-unfolding among
-among_first n s ns e = simp (among, e)
+-- `same` is what `==` on slices computes
+same_is : (s t : List ℕ) → same s t ≡ pointwise eqb s t
+unfolding same
+same_is [] [] = refl
+same_is [] (b ∷ t) = refl
+same_is (a ∷ s) [] = refl
+same_is (a ∷ s) (b ∷ t) = ap (λ (r : Bool). eqb a b && r) (same_is s t)
 
-among_later : (n s : List ℕ) (ns : List (List ℕ)) → same n s ≡ false → among (n ∷ ns) s ≡ among ns s
-unfolding among
-among_later n s ns e = simp (among, e)
+-- whether line i has this name
+abbrev pub has_name : List ℕ → List ℕ → List ℕ → ℕ → Bool
+has_name text t s i = pointwise eqb (take (get_or t (3 * i) 0 + get_or t (3 * i + 1) 0 - get_or t (3 * i) 0) (drop (get_or t (3 * i) 0) text)) s
 
-module _ (text t s : List ℕ) (i : ℕ) where
-  pub among_here : same (take (get_or t (3 * i + 1) 0) (drop (get_or t (3 * i) 0) text)) s ≡ true → among (names_of (lines_in text t (suc i))) s ≡ true
-  unfolding names_of lines_in line_in
-  among_here e = among_first _ s (names_of (lines_in text t i)) e
+swap : (a b c : Bool) → (a || (b || c)) ≡ (b || (a || c))
+swap true true c = refl
+swap true false c = refl
+swap false b c = refl
 
-  pub among_next : same (take (get_or t (3 * i + 1) 0) (drop (get_or t (3 * i) 0) text)) s ≡ false → among (names_of (lines_in text t (suc i))) s ≡ among (names_of (lines_in text t i)) s
-  unfolding names_of lines_in line_in
-  among_next e = among_later _ s (names_of (lines_in text t i)) e
+any_more : (p : ℕ → Bool) (a n : ℕ) → list_any p (range_with_len a (suc n)) ≡ (p (a + n) || list_any p (range_with_len a n))
+any_more p a zero = rw add-zero
+any_more p a (suc n) = let e : a + suc n ≡ a + 1 + n = omega arith in rw (any_more p (a + 1) n, e) (swap (p a) (p (a + 1 + n)) (list_any p (range_with_len (a + 1) n)))
 
-pub among_none : (text t s : List ℕ) (i : ℕ) → i ≡ 0 → among (names_of (lines_in text t i)) s ≡ false
-unfolding among names_of lines_in
-among_none text t s i e = rw e
+first : (a b : Bool) → (a || b) ≡ elim a [ true ↦ true | false ↦ b ]
+first true b = refl
+first false b = refl
 
 -- the part from a place to the place n bytes on
 pub part_is : (l : List ℕ) (a n : ℕ) → take (a + n - a) (drop a l) ≡ take n (drop a l)
 part_is l a n = let e : a + n - a ≡ n = omega arith in rw e
+
+pub any_among : (text t s : List ℕ) (k : ℕ) → list_any (has_name text t s) (range_with_len 0 k) ≡ among (names_of (lines_in text t k)) s
+unfolding among names_of lines_in line_in
+any_among text t s zero = refl
+any_among text t s (suc k) =
+    any_more (has_name text t s) 0 k ∙
+    (let e : 0 + k ≡ k = omega arith in
+    rw (e, any_among text t s k, ← same_is, part_is) (first (same (take (get_or t (3 * k + 1) 0) (drop (get_or t (3 * k) 0) text)) s) (among (names_of (lines_in text t k)) s)))

@@ -1,11 +1,9 @@
 -- The lines of a table and their names, and what the reader of a name promises. Assumes nothing: these are definitions.
-use Rattle.std.specs.Prelude.{Bool, ◌&&◌, List, [], ◌∷◌, ℕ, zero, suc, ◌+◌, ◌*◌, ◌≤◌, ◌<◌, length, get_or, take, drop}
+use Rattle.std.specs.Prelude.{Bool, ◌&&◌, List, [], ◌∷◌, ℕ, zero, suc, ◌+◌, ◌*◌, ◌≤◌, ◌<◌, length, get_or, take, drop, Ok, Err}
 use Rattle.language.specs.Limits.{limits}
 use Rattle.language.specs.Words.{name_byte}
 use Rattle.language.specs.Bindings.{Binding, Got, got, lost, may_go_on, fresh_name}
-use Rattle.binding_numbers.specs.declared.Step.{Step}
-use Rattle.binding_numbers.specs.declared.Step.TheVariants.{Went, Lost}
-use Rattle.binding_numbers.specs.Steps.{Reads, value}
+use Rattle.binding_numbers.specs.Steps.{Step, Reads, value}
 
 -- line i of a table, and its first i lines, the last one first
 unfoldable pub line_in : List ℕ → List ℕ → ℕ → Binding
@@ -32,8 +30,8 @@ pub record Named (text t : List ℕ) (i : ℕ) : Type 0 where
   pub lies : (j : ℕ) → j < i → get_or t (3 * j) 0 + get_or t (3 * j + 1) 0 ≤ length text
 
 unfoldable pub name_told : List ℕ → ℕ → Step → Got (List ℕ)
-name_told text from (Went x n) = got (take n (drop from text)) (drop x text)
-name_told text from (Lost x) = lost (drop x text)
+name_told text from (Ok r) = got (take r.number (drop from text)) (drop r.next text)
+name_told text from (Err l) = lost (drop l.at text)
 
 pub record ReadsName (text : List ℕ) (seen : List (List ℕ)) (from : ℕ) (r : Step) : Type 0 where
   pub reads : Reads text limits.name (fresh_name seen (drop from text)) (name_told text from) r

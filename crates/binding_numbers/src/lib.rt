@@ -6,33 +6,35 @@
 ghost use Rattle.std.specs.Prelude.{◌≤◌, ◌≡◌, length, drop};
 ghost use Rattle.language.specs.Limits.{limits};
 ghost use Rattle.language.specs.Bindings.{digits_from, number_up_to};
-ghost use Rattle.binding_numbers.specs.Steps.{grown_of, ended, valued, number_told, Greatest, Reads};
+ghost use Rattle.binding_numbers.specs.Steps.{grown_of, passed, ended, valued, number_told, Greatest, Reads};
 
-// Where reading a part came to.
+// The place after a part of the text, and a number that was read.
 #[derive(Clone, Copy)]
-pub enum Step {
-    // The place after the part, and a number that was read.
-    Went(usize, usize),
-    Lost(usize),
+pub struct Went {
+    pub next: usize,
+    pub number: usize,
 }
 
-// The number with one digit more, or 0 where the byte may not follow.
-#[tactic(auto, using(crate::proofs::Numbers::grown_zero))]
-fn grown(n: usize, b: u8, most: usize) -> usize
+// The first byte at which no right text continues.
+#[derive(Clone, Copy)]
+pub struct Lost {
+    pub at: usize,
+}
+
+// Where reading a part came to.
+pub type Step = Result<Went, Lost>;
+
+// The number with one digit more, where the byte may follow.
+#[tactic(auto, using(crate::proofs::Numbers::grown_zero, crate::proofs::Numbers::grown_letter))]
+fn grown(n: usize, b: u8, most: usize) -> Option<usize>
     requires { (n ≤ limits.typeNumber) × (most ≤ limits.typeNumber) }
     ensures { result ≡ grown_of most n b }
 {
-    if !spelling::is_digit(b) {
-        return 0;
+    if n == 0 || !spelling::is_digit(b) {
+        return None;
     }
-    if n == 0 {
-        return 0;
-    }
-    let m = n * 10 + (b as usize - 48);
-    if most < m {
-        return 0;
-    }
-    m
+    let m = n * 10 + usize::from(b - b'0');
+    if m <= most { Some(m) } else { None }
 }
 
 // The digits after the first.
@@ -41,30 +43,42 @@ fn digits(text: &[u8], from: usize, first: usize, most: usize) -> Step
     ensures { Reads text.now most (digits_from most first (drop from text.now)) (number_told text.now) result }
 {
     let mut n = first;
-    let mut at = from;
-    while at < text.len() {
-        let m = grown(n, text[at], most);
-        if m == 0 {
-            return Step::Went(at, n);
+    for at in from..text.len() {
+        match grown(n, text[at], most) {
+            Some(m) => n = m,
+            None => return Ok(Went {
+                next: at,
+                number: n,
+            }),
         }
-        n = m;
-        at += 1;
     }
-    Step::Went(at, n)
+    Ok(Went {
+        next: text.len(),
+        number: n,
+    })
 }
 
 fn number(text: &[u8], from: usize, most: usize) -> Step
     requires { (from ≤ length text.now) × Greatest most }
     ensures { Reads text.now most (number_up_to most (drop from text.now)) (number_told text.now) result }
 {
-    if text.len() <= from {
-        return Step::Lost(from);
+    if from < text.len() && spelling::is_digit(text[from]) {
+        digits(text, from + 1, usize::from(text[from] - b'0'), most)
+    } else {
+        Err(Lost { at: from })
     }
-    let b = text[from];
-    if !spelling::is_digit(b) {
-        return Step::Lost(from);
+}
+
+// The place after a byte that has to stand here.
+fn past(text: &[u8], at: usize, b: u8) -> Result<usize, Lost>
+    requires { at ≤ length text.now }
+    ensures { result ≡ passed text.now b at }
+{
+    if at < text.len() && text[at] == b {
+        Ok(at + 1)
+    } else {
+        Err(Lost { at })
     }
-    digits(text, from + 1, b as usize - 48, most)
 }
 
 // A number and the end of its line.
@@ -72,18 +86,9 @@ pub fn number_line(text: &[u8], from: usize, most: usize) -> Step
     requires { (from ≤ length text.now) × Greatest most }
     ensures { Reads text.now most (ended most (drop from text.now)) (number_told text.now) result }
 {
-    match number(text, from, most) {
-        Step::Lost(p) => Step::Lost(p),
-        Step::Went(at, v) => {
-            if text.len() <= at {
-                return Step::Lost(at);
-            }
-            if text[at] != b'\n' {
-                return Step::Lost(at);
-            }
-            Step::Went(at + 1, v)
-        }
-    }
+    let read = number(text, from, most)?;
+    let next = past(text, read.next, b'\n')?;
+    Ok(Went { next, ..read })
 }
 
 // The same after a blank.
@@ -91,11 +96,6 @@ pub fn blank_number(text: &[u8], from: usize, most: usize) -> Step
     requires { (from ≤ length text.now) × Greatest most }
     ensures { Reads text.now most (valued most (drop from text.now)) (number_told text.now) result }
 {
-    if text.len() <= from {
-        return Step::Lost(from);
-    }
-    if text[from] != b' ' {
-        return Step::Lost(from);
-    }
-    number_line(text, from + 1, most)
+    let at = past(text, from, b' ')?;
+    number_line(text, at, most)
 }

@@ -10,26 +10,38 @@ use native.Mathlib.Numerals.{add-one, add-two}
 use lib.Dec.{leb, eqb}
 use borrow.Author.Tests.{le-leb, lt-leb, leb-true, leb-false}
 use lib.ListN.{length, take, drop, get_or, set, length-set, length-drop, length-take, drop_of_length-le}
-use lib.Seq.{sets, take-suc, length-take-le, get_or-set_same, get_or-set_other, drop-cons}
+use borrow.Rule.Slice.PartMut.{put_mid}
+use Rattle.std.proofs.lemmas.List.Edits.{sets-eq}
+use Rattle.std.proofs.Common.{length-append}
+use lib.Seq.{drop-nil, sets, take-suc, get_or-set_same, get_or-set_other, drop-cons}
 use Rattle.language.specs.Bindings.{Got, got, lost, after, byte, fresh_name, lines, section, sections, Binding, Bindings, bindings_of, bound, wrong_at}
 use Rattle.binding_names.specs.Names.{line_in, lines_in, names_of, Named, name_told, ReadsName}
-use Rattle.bindings.specs.Table.{onto, cells, table_of, roomy, answer_of, table_after}
-use Rattle.binding_numbers.specs.Steps.{ended, valued, value, Reads}
+use Rattle.bindings.specs.Table.{onto, cells, table_of, so_many, roomy, answer_of, table_after}
+use Rattle.binding_numbers.specs.Steps.{Step, ended, valued, value, Reads}
 use Rattle.bindings.specs.Steps.{line_of, line_told, lines_told, count, WidthsRead, ReadsLines}
-use Rattle.binding_numbers.specs.declared.Step.{Step}
-use Rattle.binding_numbers.specs.declared.Step.TheVariants.{Went, Lost}
-use Rattle.bindings.specs.declared.Answer.TheVariants.{Bound as IsBound, Wrong, NoRoom}
+use Rattle.binding_numbers.specs.declared.Went.{Went}
+use Rattle.binding_numbers.specs.declared.Lost.{Lost}
+use Rattle.bindings.specs.declared.Fault.{Fault}
+use Rattle.bindings.specs.declared.Fault.TheVariants.{Wrong, NoRoom}
+use Rattle.std.specs.Prelude.{Ok, Err, MatchResult}
 use Rattle.binding_numbers.proofs.Numbers.{after_got, after_lost, went_in, went_small}
 
 -- ---- runs of stores
 
-pub sets_append : (l : List ℕ) (b : ℕ) (vs ws : List ℕ) → sets l b (vs ++ ws) ≡ sets (sets l b vs) (b + length vs) ws
-sets_append l b [] ws = rw add-zero
-sets_append l b (v ∷ vs) ws = sets_append (set l b v) (suc b) vs ws ∙ ap (λ (n : ℕ). sets (sets (set l b v) (suc b) vs) n ws) (suc-add b (length vs) ∙ sym (add-suc b (length vs)))
+drop_drop : (n a : ℕ) (t : List ℕ) → drop n (drop a t) ≡ drop (a + n) t
+drop_drop n zero t = let z : 0 + n ≡ n = omega arith in rw z
+drop_drop n (suc a) [] = drop-nil n ∙ sym (drop-nil (suc a + n))
+drop_drop n (suc a) (b ∷ t) = rw (suc-add a n) (drop_drop n a t)
 
-pub sets_one_more : (l : List ℕ) (b i : ℕ) (s : List ℕ) → i < length s → set (sets l b (take i s)) (b + i) (get_or s i 0) ≡ sets l b (take (i + 1) s)
-sets_one_more l b i s h =
-    sym (rw (add-one, take-suc s i 0 h, sets_append) (ap (λ (n : ℕ). set (sets l b (take i s)) (b + n) (get_or s i 0)) (length-take-le i s (omega arith))))
+-- three numbers copied to a part of a table
+pub three_stored : (t ys : List ℕ) (a k : ℕ) (vs : List ℕ) → ys ≡ vs → k ≡ length vs → a + length vs ≤ length t → put_mid a k t ys ≡ sets t a vs
+three_stored t ys a k vs q e h = rw (q, e, sets-eq vs t a h, drop_drop) (sym (append_assoc (take a t) vs (drop (a + length vs) t)))
+
+-- a run copied to the start of a table and one to the rest of it
+pub both_stored : (t rest xs ys vs ws : List ℕ) (m n : ℕ) → xs ≡ vs → ys ≡ ws → rest ≡ drop m t → m ≡ length vs → n ≡ length ws → length vs + length ws ≤ length t → xs ++ (ys ++ drop n rest) ≡ sets t 0 (vs ++ ws)
+both_stored t rest xs ys vs ws m n p q r f e h =
+    let z : 0 + (length vs + length ws) ≡ length vs + length ws = omega arith in
+    rw (p, q, r, f, e, sets-eq (vs ++ ws) t 0 (simp length-append (omega arith)), length-append, z, drop_drop) (sym (append_assoc vs ws (drop (length vs + length ws) t)))
 
 order : (n k : ℕ) → (n ≤ k) ⊎ (k < n)
 order n k = go (leb n k) refl
@@ -131,29 +143,29 @@ named_none text t = record { lies = λ j l. absurd (let z : ◌≡◌ {A = ℕ} 
 -- ---- what the answers of name, line and lines tell
 
 module _ {text : List ℕ} {most : ℕ} {what : Got (List ℕ)} (from : ℕ) {r : Step} (w : Reads text most what (name_told text from) r) where
-  pub name_went : {x n : ℕ} → r ≡ Went x n → what ≡ got (take n (drop from text)) (drop x text)
+  pub name_went : {a : Went} → r ≡ Ok a → what ≡ got (take a.number (drop from text)) (drop a.next text)
   unfolding name_told
   name_went e = w.tells ∙ rw e
 
-  pub name_lost : {x : ℕ} → r ≡ Lost x → what ≡ lost (drop x text)
+  pub name_lost : {l : Lost} → r ≡ Err l → what ≡ lost (drop l.at text)
   unfolding name_told
   name_lost e = w.tells ∙ rw e
 
 module _ {text : List ℕ} (t : List ℕ) {most : ℕ} (i : ℕ) {what : Got Binding} {r : Step} (w : Reads text most what (line_told text t i) r) where
-  pub line_went : {x n : ℕ} → r ≡ Went x n → what ≡ got (line_in text t i) (drop x text)
+  pub line_went : {a : Went} → r ≡ Ok a → what ≡ got (line_in text t i) (drop a.next text)
   unfolding line_told
   line_went e = w.tells ∙ rw e
 
-  pub line_lost : {x : ℕ} → r ≡ Lost x → what ≡ lost (drop x text)
+  pub line_lost : {l : Lost} → r ≡ Err l → what ≡ lost (drop l.at text)
   unfolding line_told
   line_lost e = w.tells ∙ rw e
 
 module _ {text : List ℕ} (t : List ℕ) {most : ℕ} {what : Got (List Binding)} {r : Step} (w : Reads text most what (lines_told text t) r) where
-  pub lines_went : {x k : ℕ} → r ≡ Went x k → what ≡ got (onto (lines_in text t k) []) (drop x text)
+  pub lines_went : {a : Went} → r ≡ Ok a → what ≡ got (onto (lines_in text t a.number) []) (drop a.next text)
   unfolding lines_told
   lines_went e = w.tells ∙ rw e
 
-  pub lines_lost : {x : ℕ} → r ≡ Lost x → what ≡ lost (drop x text)
+  pub lines_lost : {l : Lost} → r ≡ Err l → what ≡ lost (drop l.at text)
   unfolding lines_told
   lines_lost e = w.tells ∙ rw e
 
@@ -161,14 +173,19 @@ module _ {text t : List ℕ} where
   pub named_as : {i k : ℕ} → i ≡ k → Named text t i → Named text t k
   named_as e w = rw e at w
 
-  pub named_went : (i : ℕ) {r : Step} {x v : ℕ} → r ≡ Went x v → Named text t (i + count r) → Named text t (i + 1)
+  pub named_went : (i : ℕ) {r : Step} {a : Went} → r ≡ Ok a → Named text t (i + count r) → Named text t (i + 1)
   named_went i e w = rw e at w
 
-  pub named_value : {r : Step} {x v : ℕ} → r ≡ Went x v → Named text t (value r) → Named text t v
+  pub named_value : {r : Step} {a : Went} → r ≡ Ok a → Named text t (value r) → Named text t a.number
   named_value e w = rw e at w
 
-pub went_fits : {text : List ℕ} {seen : List (List ℕ)} {from : ℕ} {r : Step} {x n : ℕ} → ReadsName text seen from r → r ≡ Went x n → from + n ≤ length text
+pub went_fits : {text : List ℕ} {seen : List (List ℕ)} {from : ℕ} {r : Step} {a : Went} → ReadsName text seen from r → r ≡ Ok a → from + a.number ≤ length text
 went_fits w e = rw e at w.fits
+
+-- a place that was lost, as the whole answers it
+pub wrong_told : (r : Step) {f : Fault} → MatchResult r (λ x. ⊥) (λ l. f ≡ Wrong l.at) → (l : Lost) × (r ≡ Err l) × (f ≡ Wrong l.at)
+wrong_told (Ok a) h = absurd h
+wrong_told (Err l) h = (l, refl, h)
 
 -- ---- a line from its parts
 
@@ -256,12 +273,10 @@ length_lines_in_law text t (suc k) = ap suc (length_lines_in_law text t k)
 pub length_lines : (text t : List ℕ) (k : ℕ) → length (onto (lines_in text t k) []) ≡ k
 length_lines text t k = length_onto (lines_in text t k) [] ∙ add-zero (length (lines_in text t k)) ∙ length_lines_in_law text t k
 
-pub table_is : (text t ws vs : List ℕ) (w v : ℕ) → Named text ws w → Named text vs v → 3 * w ≤ length ws → 3 * v ≤ length vs
-    → sets (sets t 0 (take (3 * w) ws)) (3 * w) (take (3 * v) vs) ≡ sets t 0 (table_of (record { widths = onto (lines_in text ws w) []; values = onto (lines_in text vs v) [] }))
+pub table_is : (text ws vs : List ℕ) (w v : ℕ) → Named text ws w → Named text vs v → 3 * w ≤ length ws → 3 * v ≤ length vs
+    → take (3 * w) ws ++ take (3 * v) vs ≡ table_of (record { widths = onto (lines_in text ws w) []; values = onto (lines_in text vs v) [] })
 unfolding table_of
-table_is text t ws vs w v n m h k =
-    let e : 0 + length (take (3 * w) ws) ≡ 3 * w = omega (arith, length-take-le (3 * w) ws h) in
-    sym (rw (cells_lines text ws w n h, cells_lines text vs v m k, sets_append, e))
+table_is text ws vs w v n m h k = sym (rw (cells_lines text ws w n h, cells_lines text vs v m k))
 
 -- ---- the answer
 
@@ -278,7 +293,7 @@ module _ (text t : List ℕ) where
   unfolding roomy
   room h k = simp (roomy, le-leb _ _ h, le-leb _ _ k)
 
-  pub answer_none : roomy text t ≡ false → answer_of text t ≡ NoRoom
+  pub answer_none : roomy text t ≡ false → answer_of text t ≡ Err NoRoom
   unfolding answer_of
   answer_none e = simp (answer_of, e)
 
@@ -287,7 +302,7 @@ module _ (text t : List ℕ) where
   table_none e = simp (table_after, e)
 
   module _ (e : roomy text t ≡ true) where
-    pub answer_wrong : {p : ℕ} → bindings_of text ≡ wrong_at p → answer_of text t ≡ Wrong p
+    pub answer_wrong : {p : ℕ} → bindings_of text ≡ wrong_at p → answer_of text t ≡ Err (Wrong p)
     unfolding answer_of
     answer_wrong f = simp (answer_of, e, f)
 
@@ -295,7 +310,7 @@ module _ (text t : List ℕ) where
     unfolding table_after
     table_wrong f = simp (table_after, e, f)
 
-    pub answer_bound : {b : Bindings} → bindings_of text ≡ bound b → answer_of text t ≡ IsBound (length b.widths) (length b.values)
+    pub answer_bound : {b : Bindings} → bindings_of text ≡ bound b → answer_of text t ≡ Ok (so_many (length b.widths) (length b.values))
     unfolding answer_of
     answer_bound f = simp (answer_of, e, f)
 
@@ -304,20 +319,20 @@ module _ (text t : List ℕ) where
     table_bound f = simp (table_after, e, f)
 
 -- both sections are read: there must be no byte after the second, and then the table holds the lines of both
-module _ (text t ws vs : List ℕ) (w at x v : ℕ) (r : Step) (short : length text ≤ 2048) (wide : 96 ≤ length t) (a : WidthsRead text ws w at) (b : ReadsLines text (section (length text) 65535 (drop at text)) r vs) (e : r ≡ Went x v) where
-  pub place_told : x ≤ 2048
+module _ (text t ws vs : List ℕ) (w at : ℕ) (z : Went) (r : Step) (short : length text ≤ 2048) (wide : 96 ≤ length t) (a : WidthsRead text ws w at) (b : ReadsLines text (section (length text) 65535 (drop at text)) r vs) (e : r ≡ Ok z) where
+  pub place_told : z.next ≤ 2048
   place_told = omega (arith, short, went_in b.reads e)
 
-  pub tail_told : x < length text → Wrong x ≡ answer_of text t
+  pub tail_told : z.next < length text → Err (Wrong z.next) ≡ answer_of text t
   tail_told h = sym (answer_wrong text t (room text t short wide) (wrong_tail text a.is h (lines_went vs b.reads e)))
 
-  pub tail_table : x < length text → t ≡ table_after text t
+  pub tail_table : z.next < length text → t ≡ table_after text t
   tail_table h = sym (table_wrong text t (room text t short wide) (wrong_tail text a.is h (lines_went vs b.reads e)))
 
-  pub both_told : length text ≤ x → IsBound w v ≡ answer_of text t
-  both_told h = sym (answer_bound text t (room text t short wide) (right text a.is h (lines_went vs b.reads e)) ∙ rw (length_lines text ws w, length_lines text vs v))
+  pub both_told : length text ≤ z.next → Ok (so_many w z.number) ≡ answer_of text t
+  both_told h = sym (answer_bound text t (room text t short wide) (right text a.is h (lines_went vs b.reads e)) ∙ rw (length_lines text ws w, length_lines text vs z.number))
 
-  pub both_table : 48 ≤ length vs → length text ≤ x → sets (sets t 0 (take (3 * w) ws)) (3 * w) (take (3 * v) vs) ≡ table_after text t
+  pub both_table : 48 ≤ length vs → length text ≤ z.next → sets t 0 (take (3 * w) ws ++ take (3 * z.number) vs) ≡ table_after text t
   both_table k h =
-      table_is text t ws vs w v a.named (named_value e b.named) (omega (arith, a.few, a.wide)) (omega (arith, went_small b.reads e, k))
+      ap (λ (l : List ℕ). sets t 0 l) (table_is text ws vs w z.number a.named (named_value e b.named) (omega (arith, a.few, a.wide)) (omega (arith, went_small b.reads e, k)))
       ∙ sym (table_bound text t (room text t short wide) (right text a.is h (lines_went vs b.reads e)))

@@ -1,11 +1,11 @@
 -- The bindings as the program holds them: three numbers for each line, the place of its name, the name's length in bytes, and its width or value; the widths' lines first.
 -- Assumes nothing: these are definitions.
-use Rattle.std.specs.Prelude.{◌≡◌, refl, Bool, true, false, ◌&&◌, List, [], ◌∷◌, ◌++◌, ℕ, ◌+◌, ◌*◌, ◌≤◌, leb, length}
+use Rattle.std.specs.Prelude.{◌≡◌, refl, Bool, true, false, ◌&&◌, List, [], ◌∷◌, ◌++◌, ℕ, ◌+◌, ◌*◌, ◌≤◌, leb, length, Result, Ok, Err}
 use Rattle.std.proofs.lemmas.List.Edits.{sets}
 use Rattle.language.specs.Limits.{limits}
 use Rattle.language.specs.Bindings.{Binding, Bindings, bindings_of, bound, wrong_at}
-use Rattle.bindings.specs.declared.Answer.{Answer}
-use Rattle.bindings.specs.declared.Answer.TheVariants.{Bound, Wrong, NoRoom}
+use Rattle.bindings.specs.declared.Fault.{Fault}
+use Rattle.bindings.specs.declared.Fault.TheVariants.{Wrong, NoRoom}
 use Rattle.bindings.specs.declared.Lines.{Lines}
 
 unfoldable pub cells : List Binding → List ℕ
@@ -34,8 +34,11 @@ unfoldable pub roomy : List ℕ → List ℕ → Bool
 roomy text t = leb (length text) limits.bindings && leb most_numbers (length t)
 
 -- what is answered, and what the lent table then holds: of a refusal what it held before
+abbrev pub Answer : Type 0
+Answer = Result Lines Fault
+
 unfoldable pub answer_of : List ℕ → List ℕ → Answer
-answer_of text t = elim (roomy text t) [ false ↦ NoRoom | true ↦ elim (bindings_of text) [ bound b ↦ Bound (length b.widths) (length b.values) | wrong_at p ↦ Wrong p ] ]
+answer_of text t = elim (roomy text t) [ false ↦ Err NoRoom | true ↦ elim (bindings_of text) [ bound b ↦ Ok (so_many (length b.widths) (length b.values)) | wrong_at p ↦ Err (Wrong p) ] ]
 
 unfoldable pub table_after : List ℕ → List ℕ → List ℕ
 table_after text t = elim (roomy text t) [ false ↦ t | true ↦ elim (bindings_of text) [ bound b ↦ sets t 0 (table_of b) | wrong_at p ↦ t ] ]

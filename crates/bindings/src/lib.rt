@@ -10,21 +10,11 @@ ghost use Rattle.language.specs.Bindings.{lines as lines_of, section as section_
 ghost use Rattle.binding_numbers.specs.Steps.{Greatest};
 ghost use Rattle.binding_names.specs.Names.{Lent};
 ghost use Rattle.bindings.specs.Table.{answer_of, table_after, most_numbers};
+ghost use Rattle.bindings.specs.declared.Fault.TheVariants.{Wrong};
 ghost use Rattle.bindings.specs.Steps.{ReadsLine, ReadsLines, WidthsRead};
 
 use binding_names::name;
-use binding_numbers::{Step, blank_number, number_line};
-
-// What reading the whole text gives.
-#[derive(Clone, Copy)]
-pub enum Answer {
-    // So many lines of widths, then so many of values.
-    Bound(u32, u32),
-    // The first byte at which no right text continues.
-    Wrong(u32),
-    // A text over its limit or a table under so many numbers as the most lines have: nothing is read.
-    NoRoom,
-}
+use binding_numbers::{Lost, Step, Went, blank_number, number_line};
 
 // How many lines of the table bind widths, and how many after them values.
 #[derive(Clone, Copy)]
@@ -32,6 +22,18 @@ pub struct Lines {
     pub widths: usize,
     pub values: usize,
 }
+
+// Why a text is not read.
+#[derive(Clone, Copy)]
+pub enum Fault {
+    // The first byte at which no right text continues.
+    Wrong(u32),
+    // A text over its limit or a table under so many numbers as the most lines have: nothing is read.
+    NoRoom,
+}
+
+// What reading the whole text gives.
+pub type Answer = Result<Lines, Fault>;
 
 const WIDTH: usize = language::Plan::WIDTH as usize;
 
@@ -46,34 +48,18 @@ pub const NUMBERS: usize = 2 * SECTION;
 
 const BYTES: usize = language::Bindings::BYTES as usize;
 
-// Stores line i.
-fn put(table: &mut [u32], i: usize, at: usize, n: usize, v: usize)
-    requires { (3 * i + 2 < length table.old) × (at ≤ limits.bindings) × (n ≤ limits.name) × (v ≤ limits.typeNumber) }
-    ensures { table.new ≡ sets table.old (3 * i) (at ∷ n ∷ v ∷ []) }
-{
-    let p = 3 * i;
-    table[p] = at as u32;
-    table[p + 1] = n as u32;
-    table[p + 2] = v as u32;
-}
-
-// Reads line i and stores it.
+// Reads line i and stores it. What goes out: the place after it, and the number that it binds.
 fn line(text: &[u8], table: &mut [u32], i: usize, from: usize, most: usize) -> Step
     requires lent { Lent text.now table.old i from }
     requires i_lt_lines { i < limits.lines }
     requires greatest { Greatest most }
     ensures { ReadsLine text.now most i from table.old result table.new }
 {
-    match name(text, table, i, from) {
-        Step::Lost(p) => Step::Lost(p),
-        Step::Went(end, n) => match blank_number(text, end, most) {
-            Step::Lost(p) => Step::Lost(p),
-            Step::Went(next, v) => {
-                put(table, i, from, n, v);
-                Step::Went(next, 1)
-            }
-        },
-    }
+    let called = name(text, table, i, from)?;
+    let bound = blank_number(text, called.next, most)?;
+    let numbers = [from as u32, called.number as u32, bound.number as u32];
+    table[3 * i..3 * i + 3].copy_from_slice(&numbers);
+    Ok(bound)
 }
 
 // Reads k lines and stores them.
@@ -83,15 +69,13 @@ fn each_line(text: &[u8], table: &mut [u32], k: usize, from: usize, most: usize)
     ensures { ReadsLines text.now (lines_of (length text.now) most k [] (drop from text.now)) result table.new }
 {
     let mut at = from;
-    let mut i = 0;
-    while i < k {
-        match line(text, table, i, at, most) {
-            Step::Lost(p) => return Step::Lost(p),
-            Step::Went(next, _) => at = next,
-        }
-        i += 1;
+    for i in 0..k {
+        at = line(text, table, i, at, most)?.next;
     }
-    Step::Went(at, k)
+    Ok(Went {
+        next: at,
+        number: k,
+    })
 }
 
 // A count and that many lines.
@@ -100,22 +84,16 @@ fn section(text: &[u8], table: &mut [u32], from: usize, most: usize) -> Step
     requires greatest { Greatest most }
     ensures { ReadsLines text.now (section_of (length text.now) most (drop from text.now)) result table.new }
 {
-    match number_line(text, from, LINES) {
-        Step::Lost(p) => Step::Lost(p),
-        Step::Went(at, k) => each_line(text, table, k, at, most),
-    }
+    let count = number_line(text, from, LINES)?;
+    each_line(text, table, count.number, count.next, most)
 }
 
-// Copies the first n numbers to a place of the lent table.
-fn copy(from: &[u32], n: usize, table: &mut [u32], at: usize)
-    requires { (n ≤ length from.now) × (at + n ≤ length table.old) }
-    ensures { table.new ≡ sets table.old at (take n from.now) }
+// A place of a text within its limit, as the whole answers it.
+fn wrong(lost: Lost) -> Fault
+    requires { lost.at ≤ limits.bindings }
+    ensures { result ≡ Wrong lost.at }
 {
-    let mut i = 0;
-    while i < n {
-        table[at + i] = from[i];
-        i += 1;
-    }
+    Fault::Wrong(lost.at as u32)
 }
 
 // Reads the section of values after that of widths, and copies both when the whole text is right.
@@ -127,17 +105,18 @@ fn values_after(text: &[u8], table: &mut [u32], widths: &[u32], w: usize, at: us
     ensures table { table.new ≡ table_after text.now table.old }
 {
     let mut values = [0u32; SECTION];
-    match section(text, &mut values, at, VALUE) {
-        Step::Lost(p) => Answer::Wrong(p as u32),
-        Step::Went(end, v) => {
-            if end < text.len() {
-                return Answer::Wrong(end as u32);
-            }
-            copy(widths, 3 * w, table, 0);
-            copy(&values, 3 * v, table, 3 * w);
-            Answer::Bound(w as u32, v as u32)
-        }
+    let read = section(text, &mut values, at, VALUE).map_err(wrong)?;
+    if read.next < text.len() {
+        return Err(Fault::Wrong(read.next as u32));
     }
+    let lines = Lines {
+        widths: w,
+        values: read.number,
+    };
+    let (first, rest) = table.split_at_mut(3 * lines.widths);
+    first.copy_from_slice(&widths[..3 * lines.widths]);
+    rest[..3 * lines.values].copy_from_slice(&values[..3 * lines.values]);
+    Ok(lines)
 }
 
 // Reads both sections apart and copies them when the whole text is right, so that a refusal leaves the table as it stood.
@@ -145,15 +124,10 @@ pub fn read(text: &[u8], table: &mut [u32]) -> Answer
     ensures answer { result ≡ answer_of text.now table.old }
     ensures table { table.new ≡ table_after text.now table.old }
 {
-    if BYTES < text.len() {
-        return Answer::NoRoom;
-    }
-    if table.len() < NUMBERS {
-        return Answer::NoRoom;
+    if BYTES < text.len() || table.len() < NUMBERS {
+        return Err(Fault::NoRoom);
     }
     let mut widths = [0u32; SECTION];
-    match section(text, &mut widths, 0, WIDTH) {
-        Step::Lost(p) => Answer::Wrong(p as u32),
-        Step::Went(at, w) => values_after(text, table, &widths, w, at),
-    }
+    let read = section(text, &mut widths, 0, WIDTH).map_err(wrong)?;
+    values_after(text, table, &widths, read.number, read.next)
 }

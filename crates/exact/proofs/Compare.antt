@@ -1,6 +1,5 @@
 -- Two products by powers of two compared with nothing multiplied. Assumes nothing.
 use mathlib.Core.Path.{◌≡◌, refl, sym, ap, ◌∙◌, subst}
-use mathlib.Core.Bool.{true}
 use mathlib.Core.Logic.{◌↔◌}
 use Prim.Native.Nat.{ℕ, zero, suc, ◌-◌, ◌*◌, ◌/◌, ◌^◌, ◌≤◌, ◌<◌}
 use native.Mathlib.Nat.{lt_of_lt_of_le, mul_assoc, mul_comm, mul-le-mul_left, le_of_mul-le-mul_left, div-lt_iff_lt-mul, le-div_iff_mul-le, div-eq_of_lt, mul-zero}
@@ -34,9 +33,6 @@ drop_right p q a b h = (
   λ l. le_of_mul-le-mul_left (subst (λ (n : ℕ). n ≤ 2 ^ q * b) (factor q p a h) l) (pow_pos q),
   λ l. subst (λ (n : ℕ). n ≤ 2 ^ q * b) (sym (factor q p a h)) (mul-le-mul_left (2 ^ q) l),
 )
-
-pub cmp_zero : (p q a b : ℕ) → a ≡ 0 → true ≡ leb (2 ^ p * a) (2 ^ q * b)
-cmp_zero p q a b e = sym (ap (λ (n : ℕ). leb n (2 ^ q * b)) (ap (λ (n : ℕ). 2 ^ p * n) e ∙ mul-zero (2 ^ p)) ∙ le-leb 0 (2 ^ q * b) Prim.Native.Nat.zero-le)
 
 pub cmp_up : (p q a b : ℕ) → p ≤ q → 0 < a → ltb ((a - 1) / 2 ^ (q - p)) b ≡ leb (2 ^ p * a) (2 ^ q * b)
 cmp_up p q a b h pos =

@@ -105,12 +105,11 @@ pub up_le : (k a b : ℕ) → a < 2 ^ k → log_up a b ≤ k
 unfolding log_up
 up_le k a b h = fewest_le k ((a - 1) / b) (lt_of_le_of_lt (div-le_self (a - 1) b) (lt_of_le_of_lt (sub-le a 1) h))
 
--- ---- from a word's leading zeros
+-- ---- as the code has them
 
-pub down_bits : (k a b : ℕ) → 0 < b → b ≤ a → a < 2 ^ k → count_leading_zeros k (a / b) + suc (log_down a b) ≡ k
-down_bits k a b pos h l =
-    let t = leading_top k (a / b) ((le-div_iff_mul-le pos).1 (omega (arith, one-mul b))) (lt_of_le_of_lt (div-le_self a b) l) in
-    ap (λ (j : ℕ). count_leading_zeros k (a / b) + suc j) (down_is a b t.0 pos ((le-div_iff_mul-le pos).0 t.2) ((div-lt_iff_lt-mul pos).0 t.3)) ∙ t.1
+-- the power of two that a quotient holds
+pub down_log : (a b t : ℕ) → 0 < b → 2 ^ t ≤ a / b → a / b < 2 * 2 ^ t → t ≡ log_down a b
+down_log a b t pos lo hi = sym (down_is a b t pos ((le-div_iff_mul-le pos).0 lo) ((div-lt_iff_lt-mul pos).0 (rw pow-suc (omega arith))))
 
 pub up_bits : (k a b : ℕ) → a < 2 ^ k → count_leading_zeros k ((a - 1) / b) + log_up a b ≡ k
 unfolding log_up

@@ -1,9 +1,7 @@
--- The room that exact values leave, so that nothing overflows, and a bit position in code. Assumes nothing: these are definitions.
+-- The room that exact values leave, so that nothing overflows, and a bit position as code has it. Assumes nothing: these are definitions.
 use Rattle.std.proofs.Math.Option.{Option, none, some}
-use Rattle.std.specs.Prelude.{ℕ, ◌+◌, ◌*◌, ◌^◌, ◌<◌}
+use Rattle.std.specs.Prelude.{ℕ, ◌+◌, ◌*◌, ◌^◌, ◌<◌, Option as RtOption, Some, None}
 use Rattle.language.specs.declared.Exact.{Exact}
-use Rattle.exact.specs.declared.Position.{Position}
-use Rattle.exact.specs.declared.Position.TheVariants.{At, Outside}
 
 -- a value that floor and ceil take
 pub record Space (x : Exact) : Type 0 where
@@ -23,7 +21,7 @@ pub record Room (x y : Exact) : Type 0 where
   pub ab : x.a * y.b < 2 ^ 64
   pub ba : x.b * y.a < 2 ^ 64
 
--- a bit position below zero is outside
-abbrev pub positioned : Option ℕ → Position
-positioned none = Outside
-positioned (some n) = At n
+-- a bit position below zero is outside: None in code
+abbrev pub positioned : Option ℕ → RtOption ℕ
+positioned none = None
+positioned (some n) = Some n

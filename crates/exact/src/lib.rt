@@ -9,13 +9,6 @@ ghost use Rattle.exact.specs.Room.{Space, Room, positioned};
 
 use language::Exact;
 
-// A bit position as a type gives it; one below zero is outside.
-#[derive(Clone, Copy)]
-pub enum Position {
-    At(u64),
-    Outside,
-}
-
 // A whole number, as a bound width or a port's width is one.
 pub fn number(n: u64) -> Exact
     ensures { result ≡ whole_of n 0 }
@@ -32,11 +25,10 @@ pub fn number(n: u64) -> Exact
 pub fn log(n: u64) -> Exact
     ensures { result ≡ log_of n }
 {
-    let argument = if n < 2 { 2 } else { n };
     Exact {
         up: 0,
         down: 0,
-        a: argument,
+        a: n.max(2),
         b: 1,
     }
 }
@@ -72,21 +64,14 @@ fn at_most(p: u64, a: u64, q: u64, b: u64) -> bool
 {
     if p <= q {
         let d = q - p;
-        if a == 0 {
-            return true;
-        }
-        if d < 64 {
-            return (a - 1) >> d < b;
-        }
-        return 0 < b;
+        a == 0 || if d < 64 { (a - 1) >> d < b } else { 0 < b }
+    } else {
+        let d = p - q;
+        if d < 64 { a <= b >> d } else { a == 0 }
     }
-    let d = p - q;
-    if d < 64 {
-        return a <= b >> d;
-    }
-    a == 0
 }
 
+#[tactic(auto, unfolding(language::specs::Types::not_above))]
 fn not_above(x: Exact, y: Exact) -> bool
     requires { Room x y }
     ensures { result ≡ not_above x y }
@@ -94,34 +79,31 @@ fn not_above(x: Exact, y: Exact) -> bool
     at_most(x.up + y.down, x.a * y.b, y.up + x.down, y.a * x.b)
 }
 
+#[tactic(auto, unfolding(language::specs::Types::greater_of))]
 pub fn greater(x: Exact, y: Exact) -> Exact
     requires { Room x y }
     ensures { result ≡ greater_of x y }
 {
-    if not_above(x, y) {
-        return y;
-    }
-    x
+    if not_above(x, y) { y } else { x }
 }
 
 // The bits of a quotient count the powers of two in it: no loop.
+#[tactic(auto, using(crate::proofs::Logs::down_zero, crate::proofs::Logs::down_log))]
 fn log_down(a: u64, b: u64) -> u64
     requires { 0 < b }
     ensures { (result ≡ log_down a b) × (result ≤ 64) }
 {
-    if a < b {
-        return 0;
-    }
-    (63 - u64::leading_zeros(a / b)) as u64
+    if a < b { 0 } else { u64::from((a / b).ilog2()) }
 }
 
 fn log_up(a: u64, b: u64) -> u64
     requires { (0 < a) × (0 < b) }
     ensures { (result ≡ log_up a b) × (result ≤ 64) }
 {
-    (64 - u64::leading_zeros((a - 1) / b)) as u64
+    u64::from(64 - ((a - 1) / b).leading_zeros())
 }
 
+#[tactic(auto, unfolding(language::specs::Types::floor_of))]
 pub fn floor(x: Exact) -> Exact
     requires { Space x }
     ensures { result ≡ floor_of x }
@@ -134,6 +116,7 @@ pub fn floor(x: Exact) -> Exact
     }
 }
 
+#[tactic(auto, unfolding(language::specs::Types::ceil_of))]
 pub fn ceil(x: Exact) -> Exact
     requires { Space x }
     ensures { result ≡ ceil_of x }
@@ -147,23 +130,20 @@ pub fn ceil(x: Exact) -> Exact
 }
 
 // Floored at the end; below zero it is 0.
+#[tactic(auto, unfolding(language::specs::Types::width_of))]
 pub fn width_of(x: Exact) -> u64
     requires { Space x }
     ensures { result ≡ width_of x }
 {
     let f = floor(x);
-    if f.down <= f.up { f.up - f.down } else { 0 }
+    f.up.saturating_sub(f.down)
 }
 
-// Floored at the end; below zero it is outside.
-pub fn position_of(x: Exact) -> Position
+// A bit position: floored at the end; one below zero is outside, None.
+pub fn position_of(x: Exact) -> Option<u64>
     requires { Space x }
     ensures { result ≡ positioned (position_of x) }
 {
     let f = floor(x);
-    if f.down <= f.up {
-        Position::At(f.up - f.down)
-    } else {
-        Position::Outside
-    }
+    f.up.checked_sub(f.down)
 }

@@ -13,11 +13,11 @@ use Rattle.language.specs.Parts.{each}
 use Rattle.language.specs.Tree.{spelled_of}
 use Rattle.language.specs.Bindings.{Binding, Bindings, Bound, bound, wrong_at, bindings_of}
 use Rattle.language.specs.Widths.{bound_names}
-use Rattle.bindings.specs.Table.{cells, table_of, so_many, Lined, roomy, answer_of, table_after}
+use Rattle.bindings.specs.Table.{cells, table_of, so_many, Lined, roomy, Answer, answer_of, table_after}
 use Rattle.binding_names.specs.Names.{line_in}
 use Rattle.bindings.specs.declared.Lines.{Lines}
-use Rattle.bindings.specs.declared.Answer.{Answer}
-use Rattle.bindings.specs.declared.Answer.TheVariants.{Bound as IsBound, Wrong, NoRoom}
+use Rattle.bindings.specs.declared.Fault.TheVariants.{Wrong, NoRoom}
+use Rattle.std.specs.Prelude.{Ok, Err}
 use Rattle.placed.specs.Placed.{Every}
 use Rattle.row09_bindings.specs.Lines.{name_on, names_on, lines_on, Binds}
 use Rattle.row09_bindings.proofs.Spelled.{NameStands, bound_names_law}
@@ -85,9 +85,9 @@ module _ (btext t : List ℕ) where
       few : length (cells b.widths ++ cells b.values) ≤ 96
       few = let l = long in let x = (bound_names_law btext e).few_widths in let y = (bound_names_law btext e).few_values in omega arith
 
-  pub read_fills : {k m : ℕ} → answer_of btext t ≡ IsBound k m → Filled btext (table_after btext t) (so_many k m)
+  pub read_fills : {lines : Lines} → answer_of btext t ≡ Ok lines → Filled btext (table_after btext t) lines
   unfolding answer_of table_after roomy
-  read_fills {k} {m} e = go (roomy btext t) refl (bindings_of btext) refl e
+  read_fills {lines} e = go (roomy btext t) refl (bindings_of btext) refl e
     where
       wide : roomy btext t ≡ true → 96 ≤ length t
       wide r = leb-true 96 (length t) (last (leb (length btext) limits.bindings) (leb 96 (length t)) r)
@@ -96,11 +96,10 @@ module _ (btext t : List ℕ) where
           last true y e = e
           last false y e = absurd (let z : ◌≡◌ {A = ℕ} 0 1 = cc in omega arith)
 
-      go : (r : Bool) → roomy btext t ≡ r → (g : Bound) → bindings_of btext ≡ g → ◌≡◌ {A = Answer} (elim r [ false ↦ NoRoom | true ↦ elim g [ bound b ↦ IsBound (length b.widths) (length b.values) | wrong_at p ↦ Wrong p ] ]) (IsBound k m)
-          → Filled btext (elim r [ false ↦ t | true ↦ elim g [ bound b ↦ sets t 0 (table_of b) | wrong_at p ↦ t ] ]) (so_many k m)
+      go : (r : Bool) → roomy btext t ≡ r → (g : Bound) → bindings_of btext ≡ g → ◌≡◌ {A = Answer} (elim r [ false ↦ Err NoRoom | true ↦ elim g [ bound b ↦ Ok (so_many (length b.widths) (length b.values)) | wrong_at p ↦ Err (Wrong p) ] ]) (Ok lines)
+          → Filled btext (elim r [ false ↦ t | true ↦ elim g [ bound b ↦ sets t 0 (table_of b) | wrong_at p ↦ t ] ]) lines
       go false q g f e = absurd (let z : ◌≡◌ {A = ℕ} 0 1 = cc in omega arith)
       go true q (wrong_at p) f e = absurd (let z : ◌≡◌ {A = ℕ} 0 1 = cc in omega arith)
       go true q (bound b) f e =
-          let x : length b.widths ≡ k = cc in
-          let y : length b.values ≡ m = cc in
-          subst (λ (k : ℕ). Filled btext (sets t 0 (table_of b)) (so_many k m)) x (subst (λ (m : ℕ). Filled btext (sets t 0 (table_of b)) (so_many (length b.widths) m)) y (filled b f (wide q)))
+          let x : so_many (length b.widths) (length b.values) ≡ lines = cc in
+          subst (λ (x : Lines). Filled btext (sets t 0 (table_of b)) x) x (filled b f (wide q))
