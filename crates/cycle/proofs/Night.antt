@@ -17,7 +17,7 @@ use Rattle.plan.specs.Sound.{sound_of, sections_ok, all_up_to, port_ok}
 use Rattle.plan_sections.specs.Parts.{ports_part, memories_part, groups_part, rules_part}
 use Rattle.plan_sections.proofs.Parts.{sections_parts}
 use Rattle.plan.proofs.Tests.{and_left, and_right}
-use Rattle.judged.specs.declared.Answer.TheVariants.{Unsound, Miscounted}
+use Rattle.judged.specs.declared.Refusal.TheVariants.{Unsound, Miscounted}
 use Rattle.judged.specs.Answers.{number_of}
 use Rattle.turn.specs.Cycle.{cycle_of}
 use Rattle.judged.specs.Tests.{counts}

@@ -4,7 +4,7 @@ use Rattle.language.specs.Parts.{each}
 use Rattle.language.specs.Meaning.{Outcome, Turn, memory_left}
 use Rattle.plan.specs.Layout.{port_count, memory_count, cells_before}
 use Rattle.plan.specs.Sound.{sound_of}
-use Rattle.judged.specs.declared.Answer.TheVariants.{Unsound, Miscounted}
+use Rattle.judged.specs.declared.Refusal.TheVariants.{Unsound, Miscounted}
 use Rattle.judged.specs.Answers.{number_of}
 use Rattle.turn.specs.Cycle.{cycle_of}
 

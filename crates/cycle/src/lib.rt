@@ -10,10 +10,10 @@ ghost use Rattle.turn.specs.Cycle.{cycle_of};
 ghost use Rattle.cycle.specs.Run.{result as run_result, run_of};
 ghost use Rattle.turn.specs.Turn.{outcome};
 
-use judged::{Answer, counts, number};
+use judged::{Refusal, counts};
 use runs::{tables_fit, turns};
 use soundness::sound;
-use turn::{Done, refused};
+use turn::Done;
 
 // One cycle of any plan over any tables: a run of one. So the code of a cycle stands once in a program, with its tables beside it.
 pub fn cycle(
@@ -27,18 +27,15 @@ pub fn cycle(
         ≡ cycle_of plan.now mask values.now memory.old outputs.old }
 {
     if !sound(plan) {
-        return refused(Answer::Unsound);
+        return Done::from(Err(Refusal::Unsound));
     }
     if !counts(plan, values, memory, outputs) {
-        return refused(Answer::Miscounted);
+        return Done::from(Err(Refusal::Miscounted));
     }
-    let masks = [mask];
     let mut answers = [0u32; 2];
-    turns(plan, &masks, values, memory, outputs, &mut answers);
-    Done {
-        answer: answers[0],
-        present: answers[1],
-    }
+    turns(plan, &[mask], values, memory, outputs, &mut answers);
+    let [answer, present] = answers;
+    Done { answer, present }
 }
 
 // Cycle after cycle, with a mask for each: 20 or 21 where nothing is run, else 0 and each cycle's own two numbers.
@@ -54,11 +51,11 @@ pub fn run(
         after ≡ run_of plan.now masks.now values.now memory.old outputs.old answers.old }
 {
     if !sound(plan) {
-        return number(Answer::Unsound);
+        return u32::from(Refusal::Unsound);
     }
     if !tables_fit(plan, masks, values, memory, outputs, answers) {
-        return number(Answer::Miscounted);
+        return u32::from(Refusal::Miscounted);
     }
     turns(plan, masks, values, memory, outputs, answers);
-    number(Answer::Accepted)
+    0
 }

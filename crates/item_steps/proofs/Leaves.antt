@@ -11,8 +11,9 @@ use Rattle.plan.specs.declared.Item.{Item}
 use Rattle.plan.specs.declared.Item.TheVariants.{Const, Port, Let, Cell, Range, Copies, Beside, Before, Between, Choice, Arm, Keep, Assign, Write, Bad}
 use Rattle.plan.specs.Waits.{top}
 use Rattle.plan.specs.Items.{takes_of, acts_of}
-use Rattle.item_steps.specs.Machine.{State, state, cell_of, write_to, exec1}
-use Rattle.item_steps.specs.Ready.{value_of, Asks, Ready, Buffered, Left}
+use Rattle.item_steps.specs.Machine.{State, state, cell_of, pick, write_to, exec1}
+use Rattle.item_steps.specs.Ready.{value_of, Asks, Ready, Writes, Left}
+use Rattle.item_steps.specs.declared.Tables.{Tables}
 use Rattle.plan.proofs.Waits.{length_top}
 
 pub cell_in : (memory : List ℕ) (f n a : ℕ) → a < n → get_or memory (f + a) 0 ≡ cell_of memory f n a
@@ -22,6 +23,14 @@ cell_in memory f n a h = sym (ap (λ (b : Bool). elim b [ true ↦ get_or memory
 pub cell_past : (memory : List ℕ) (f n a : ℕ) → n ≤ a → 0 ≡ cell_of memory f n a
 unfolding cell_of
 cell_past memory f n a h = sym (ap (λ (b : Bool). elim b [ true ↦ get_or memory (f + a) 0 | false ↦ 0 ]) (le-ltb a n h))
+
+pub pick_first : {b : Bool} (x y : ℕ) → b ≡ true → pick b x y ≡ x
+unfolding pick
+pick_first {b} x y h = rw h
+
+pub pick_second : {b : Bool} (x y : ℕ) → b ≡ false → pick b x y ≡ y
+unfolding pick
+pick_second {b} x y h = rw h
 
 module _ (values memory : List ℕ) where
   abbrev Leaves : Item → List ℕ → List ℕ → List ℕ → List (Change ℕ) → Type 0
@@ -83,10 +92,10 @@ module _ (values memory s : List ℕ) (n : ℕ) (ls os : List ℕ) (qs : List (C
 
 -- ---- what a step leaves
 
-pub left_as : (memory stack : List ℕ) (n : ℕ) (slots outputs next changed : List ℕ) (clash : Bool) (qs : List (Change ℕ)) {s : State}
-    → state (top stack n) slots outputs qs ≡ s → Buffered memory next changed clash qs → Left memory stack n slots outputs next changed clash s
-left_as memory stack n slots outputs next changed clash qs e b =
-    subst (λ (s : State). Left memory stack n slots outputs next changed clash s) e (record { waits = refl; slot = refl; output = refl; write = b })
+pub left_as : (memory : List ℕ) (n : ℕ) (slots outputs : List ℕ) (t : Tables) (qs : List (Change ℕ)) {s : State}
+    → state (top t.stack n) slots outputs qs ≡ s → Writes memory t qs → Left memory n slots outputs t s
+left_as memory n slots outputs t qs e b =
+    subst (λ (s : State). Left memory n slots outputs t s) e (record { waits = refl; slot = refl; output = refl; write = b })
 
 -- a value in place of those that an item takes
 pub value_left : (values memory s t : List ℕ) (n r : ℕ) (ls os : List ℕ) (qs : List (Change ℕ)) (i : Item) → acts_of i ≡ false → Ready values memory s n ls os i

@@ -1,11 +1,12 @@
 -- The writes of a cycle in a table of cells. Assumes nothing.
 use Prim.Native.Nat.{ℕ, ◌+◌, ◌≤◌, ◌<◌}
 use mathlib.Core.Path.{◌≡◌, refl, sym, ap, ◌∙◌}
-use mathlib.Core.List.{List, [], ◌∷◌}
+use mathlib.Core.List.{List, [], ◌∷◌, ◌++◌}
 use mathlib.Core.Bool.{Bool, true, false, ◌||◌, false≢true}
+use native.Mathlib.Omega.{arith}
 use lib.Dec.{eqb}
-use lib.ListN.{length, get_or, set, length-set}
-use lib.Seq.{set_comm, take-set-lt, get_or-set_same, get_or-set_other}
+use lib.ListN.{length, get_or, set, length-set, replicate, get_or-replicate}
+use lib.Seq.{set_comm, take-set-lt, take_at, get_or-set_same, get_or-set_other}
 use borrow.Author.Tests.{lt-ltb, le-ltb, eq-eqb, ne_eqb, eqb-true, eqb-false}
 use Rattle.language.specs.Meaning.{Change, touched, twice, written}
 use Rattle.item_steps.specs.Machine.{write_to}
@@ -37,26 +38,26 @@ pub write_in : (f size a v : ℕ) (qs : List (Change ℕ)) → a < size → writ
 unfolding write_to
 write_in f size a v qs h = ap (λ (b : Bool). elim b [ true ↦ record { target = f + a; to = v } ∷ qs | false ↦ qs ]) (lt-ltb a size h)
 
-module _ (memory next changed : List ℕ) (clash : Bool) (qs : List (Change ℕ)) (t v : ℕ) (h : t < length memory) (b : Buffered memory next changed clash qs) where
+module _ (memory next : List ℕ) (changed : List Bool) (clash : Bool) (qs : List (Change ℕ)) (t v : ℕ) (h : t < length memory) (b : Buffered memory next changed clash qs) where
   abbrev more : List (Change ℕ)
   more = record { target = t; to = v } ∷ qs
 
   -- a second write to a cell
-  pub buffered_clash : get_or changed t 0 ≡ 1 → Buffered memory next changed true more
+  pub buffered_clash : get_or changed t false ≡ true → Buffered memory next changed true more
   unfolding touched twice
   buffered_clash e =
       record {
         changes = λ a l. go a l (eqb a t) refl;
-        clashes = sym (ap (λ (x : Bool). x || twice qs) (b.changes t h ∙ eq-eqb (get_or changed t 0) 1 e));
+        clashes = sym (ap (λ (x : Bool). x || twice qs) (b.changes t h ∙ e));
         holds = λ z. absurd (false≢true (sym z));
       }
     where
-      go : (a : ℕ) → a < length memory → (c : Bool) → eqb a t ≡ c → touched a more ≡ eqb (get_or changed a 0) 1
-      go a l true q = ap (λ (x : Bool). x || touched a qs) q ∙ sym (ap (λ (x : ℕ). eqb (get_or changed x 0) 1) (eqb-true a t q) ∙ eq-eqb (get_or changed t 0) 1 e)
+      go : (a : ℕ) → a < length memory → (c : Bool) → eqb a t ≡ c → touched a more ≡ get_or changed a false
+      go a l true q = ap (λ (x : Bool). x || touched a qs) q ∙ sym (ap (λ (x : ℕ). get_or changed x false) (eqb-true a t q) ∙ e)
       go a l false q = ap (λ (x : Bool). x || touched a qs) q ∙ b.changes a l
 
   -- a first write
-  pub buffered_first : (get_or changed t 0 ≡ 1 → ⊥) → t < length next → t < length changed → Buffered memory (set next t v) (set changed t 1) clash more
+  pub buffered_first : get_or changed t false ≡ false → t < length next → t < length changed → Buffered memory (set next t v) (set changed t true) clash more
   unfolding touched twice written
   buffered_first n j k =
       record {
@@ -66,10 +67,20 @@ module _ (memory next changed : List ℕ) (clash : Bool) (qs : List (Change ℕ)
       }
     where
       free : touched t qs ≡ false
-      free = b.changes t h ∙ ne_eqb (get_or changed t 0) 1 n
+      free = b.changes t h ∙ n
 
-      go : (a : ℕ) → a < length memory → (c : Bool) → eqb a t ≡ c → touched a more ≡ eqb (get_or (set changed t 1) a 0) 1
+      go : (a : ℕ) → a < length memory → (c : Bool) → eqb a t ≡ c → touched a more ≡ get_or (set changed t true) a false
       go a l true q =
           ap (λ (x : Bool). x || touched a qs) q
-          ∙ sym (ap (λ (x : ℕ). eqb (get_or (set changed t 1) x 0) 1) (eqb-true a t q) ∙ ap (λ (x : ℕ). eqb x 1) (get_or-set_same changed t 1 0 k))
-      go a l false q = ap (λ (x : Bool). x || touched a qs) q ∙ b.changes a l ∙ sym (ap (λ (x : ℕ). eqb x 1) (get_or-set_other changed t a 1 0 (eqb-false a t q)))
+          ∙ sym (ap (λ (x : ℕ). get_or (set changed t true) x false) (eqb-true a t q) ∙ get_or-set_same changed t true false k)
+      go a l false q = ap (λ (x : Bool). x || touched a qs) q ∙ b.changes a l ∙ sym (get_or-set_other changed t a true false (eqb-false a t q))
+
+-- before the first write
+pub prepared : (memory rest : List ℕ) (changed : List Bool) (n : ℕ) → changed ≡ replicate n false → length memory ≤ n → Buffered memory (memory ++ rest) changed false []
+unfolding touched twice written
+prepared memory rest changed n e h =
+    record {
+      changes = λ a l. rw e (sym (get_or-replicate n a false false (omega arith)));
+      clashes = refl;
+      holds = λ z. take_at memory rest (length memory) refl;
+    }

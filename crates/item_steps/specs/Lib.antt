@@ -1,3 +1,2 @@
 pub mod Machine
 pub mod Ready
-pub mod Tables

@@ -9,6 +9,8 @@ use Rattle.plan.specs.declared.Item.TheVariants.{Const, Port, Let, Cell, Range, 
 use Rattle.plan.specs.Waits.{top}
 use Rattle.plan.specs.Items.{takes_of}
 use Rattle.plan.specs.Sound.{waiting}
+use Rattle.language.specs.Limits.{limits}
+use Rattle.item_steps.specs.declared.Tables.{Tables}
 use Rattle.item_steps.specs.Machine.{State, state, cell_of, pick, write_to, exec1}
 
 -- the value that an item leaves over c, x and y, the latest
@@ -55,18 +57,22 @@ pub record Ready (values memory stack : List ℕ) (n : ℕ) (slots outputs : Lis
   pub room : n - takes_of i < waiting
   pub asks : Asks values memory slots outputs (get_or (top stack n) 1 0) (get_or (top stack n) 0 0) i
 
--- the writes of a cycle: `next` holds the cells as they will be, `changed` a 1 for each that is written, `clash` is true where one was written twice
-pub record Buffered (memory next changed : List ℕ) (clash : Bool) (qs : List (Change ℕ)) : Type 0 where
-  pub changes : (a : ℕ) → a < length memory → touched a qs ≡ eqb (get_or changed a 0) 1
+-- the writes of a cycle: `next` holds the cells as they will be, `changed` says which of them are written, `clash` is true where one was written twice
+pub record Buffered (memory next : List ℕ) (changed : List Bool) (clash : Bool) (qs : List (Change ℕ)) : Type 0 where
+  pub changes : (a : ℕ) → a < length memory → touched a qs ≡ get_or changed a false
   pub clashes : clash ≡ twice qs
   pub holds : clash ≡ false → take (length memory) next ≡ written qs memory
 
+-- the tables hold some writes
+abbrev pub Writes : (memory : List ℕ) → Tables → List (Change ℕ) → Type 0
+Writes memory t qs = Buffered memory t.next t.changed t.clash qs
+
 -- the tables that a step leaves are a state, with some writes
-pub record Left (memory stack : List ℕ) (n : ℕ) (slots outputs next changed : List ℕ) (clash : Bool) (s : State) : Type 0 where
-  pub waits : top stack n ≡ s.waits
+pub record Left (memory : List ℕ) (n : ℕ) (slots outputs : List ℕ) (t : Tables) (s : State) : Type 0 where
+  pub waits : top t.stack n ≡ s.waits
   pub slot : slots ≡ s.slots
   pub output : outputs ≡ s.outputs
-  pub write : Buffered memory next changed clash s.writes
+  pub write : Writes memory t s.writes
 
 -- the values that wait after an item that leaves one
 abbrev pub left_by : (values memory slots stack : List ℕ) (n : ℕ) → Item → List ℕ
@@ -74,10 +80,9 @@ left_by values memory slots stack n i =
     value_of values memory slots (get_or (top stack n) 2 0) (get_or (top stack n) 1 0) (get_or (top stack n) 0 0) i ∷ drop (takes_of i) (top stack n)
 
 -- where the tables held some writes, they hold one more: to the cell a of the size from f on, if it exists
-abbrev pub Wrote : (f size a v : ℕ) (next₀ changed₀ : List ℕ) (clash₀ : Bool) (next changed : List ℕ) (clash : Bool) → Type 0
-Wrote f size a v next₀ changed₀ clash₀ next changed clash =
-    (memory : List ℕ) (qs : List (Change ℕ)) → f + size ≤ length memory → length memory ≤ length next₀ → length memory ≤ length changed₀ → Buffered memory next₀ changed₀ clash₀ qs
-    → Buffered memory next changed clash (write_to f size a v qs)
+abbrev pub Wrote : (f size a v : ℕ) (before after : Tables) → Type 0
+Wrote f size a v before after =
+    (memory : List ℕ) (qs : List (Change ℕ)) → f + size ≤ length memory → length memory ≤ limits.cells → Writes memory before qs → Writes memory after (write_to f size a v qs)
 
 -- whatever writes the tables held, they then hold what a run makes of them
 abbrev pub Carried : (held : List (Change ℕ) → Type 0) (run : List (Change ℕ) → State) (left : State → Type 0) → Type 0

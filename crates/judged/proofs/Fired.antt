@@ -21,7 +21,7 @@ use Rattle.judged.specs.Groups.{bits_agree, matches_of, matching, Fired, fired, 
 use Rattle.judged.specs.Tests.{all_below, input_fits, memory_fits, fitting}
 use Rattle.machine.specs.Safety.{CodeGiven}
 use Rattle.machine.specs.Fires.{Fires}
-use Rattle.judged.specs.declared.Answer.TheVariants.{Unfit, Unmatched, Ambiguous}
+use Rattle.judged.specs.declared.Refusal.TheVariants.{Unfit, Unmatched, Ambiguous}
 use Rattle.judged.specs.Answers.{number_of}
 use Rattle.judged.specs.Judged.{judged}
 use Rattle.judged.proofs.Firing.{cells_within}

@@ -2,13 +2,16 @@
 use Prim.Native.Nat.{ℕ, zero, suc, ◌+◌, ◌-◌, ◌^◌, ◌≤◌, ◌<◌}
 use mathlib.Core.Path.{◌≡◌, refl, sym, ap, ap₂, ◌∙◌}
 use mathlib.Core.List.{List, [], ◌∷◌, ◌++◌, append_assoc, append-nil}
-use mathlib.Core.Bool.{Bool, true, false, not, ◌&&◌, ◌||◌, and_comm, and_assoc}
+use mathlib.Core.Bool.{Bool, true, false, not, ◌&&◌, ◌||◌, false≢true, and_comm, and_assoc}
 use native.Mathlib.Numerals.{add-one}
 use native.Mathlib.Omega.{arith}
 use lib.Dec.{eqb, ltb}
-use lib.ListN.{length, set, take}
+use lib.ListN.{length, get_or, set, take, drop, length-drop}
+use lib.Pow.{pow_pos}
+use Rattle.std.specs.List.{fold}
+use Rattle.std.proofs.lemmas.List.Sums.{fold-append}
 use lib.Bits.{bit_or, or_lt, or_add_and, and_le_l, and_le_r}
-use lib.Seq.{take-suc-set}
+use lib.Seq.{take-suc, take-suc-set, get_or-drop}
 use borrow.Author.Tests.{eqb-true, eqb-false, lt-ltb, le-ltb, ltb-true, ltb-false}
 use Rattle.language.specs.Values.{bit_of}
 use Rattle.bits.specs.Masks.{bit_matches, matches_in}
@@ -17,9 +20,10 @@ use Rattle.bits.proofs.Digits.{bit_lt}
 use Rattle.plan.specs.Layout.{memory_size_at, cells_before, present_at, absent_at, rules_before, group_at}
 use Rattle.judged.specs.Groups.{bits_agree, matches_of, matching, Fired, fired, unfired, firing}
 use Rattle.judged.specs.Tests.{all_below}
-use Rattle.judged.specs.declared.Answer.{Answer}
-use Rattle.judged.specs.declared.Answer.TheVariants.{Unmatched, Ambiguous}
-use Rattle.judged.specs.declared.groups.Match.TheVariants.{Rule, Refused}
+use Rattle.judged.specs.declared.Refusal.{Refusal}
+use Rattle.judged.specs.declared.Refusal.TheVariants.{Unmatched, Ambiguous}
+use Rattle.std.specs.Prelude.{Option, Some, None, Result, Ok, Err, is_some}
+use Rattle.std.specs.Option.{ok_or}
 use Rattle.judged.specs.Answers.{number_of}
 use Rattle.judged.specs.Judged.{only_of}
 
@@ -35,6 +39,16 @@ or_within a b w = go (ltb a (2 ^ w)) (ltb b (2 ^ w)) refl refl
     go true true d e = lt-ltb (bit_or a b) (2 ^ w) (or_lt w a b (ltb-true a (2 ^ w) d) (ltb-true b (2 ^ w) e))
     go true false d e = let h : 2 ^ w ≤ b = ltb-false b (2 ^ w) e in le-ltb (bit_or a b) (2 ^ w) (omega (arith, h, or_add_and a b, and_le_l a b))
     go false y d e = let h : 2 ^ w ≤ a = ltb-false a (2 ^ w) d in le-ltb (bit_or a b) (2 ^ w) (omega (arith, h, or_add_and a b, and_le_r a b))
+
+-- the bits of k cells together fit a width where each of them does
+pub bits_fit : (p memory : List ℕ) (first w k : ℕ) → first + k ≤ length memory → ltb (fold bit_or 0 (take k (drop first memory))) (2 ^ w) ≡ all_below p k (λ i. ltb (get_or memory (first + i) 0) (2 ^ w))
+unfolding all_below
+bits_fit p memory first w zero h = lt-ltb 0 (2 ^ w) (pow_pos w)
+bits_fit p memory first w (suc k) h =
+    let e : get_or (drop first memory) k 0 ≡ get_or memory (first + k) 0 = get_or-drop first memory k 0 in
+    let j : k < length (drop first memory) = rw (length-drop first memory) (omega arith) in
+    rw (take-suc (drop first memory) k 0 j, fold-append bit_or 0 (take k (drop first memory)) (get_or (drop first memory) k 0 ∷ []), e)
+    (or_within (fold bit_or 0 (take k (drop first memory))) (get_or memory (first + k) 0) w ∙ ap (λ (b : Bool). b && ltb (get_or memory (first + k) 0) (2 ^ w)) (bits_fit p memory first w k (omega arith)))
 
 -- the cells of a memory are among those of the memories up to n
 pub cells_within : (p : List ℕ) (m n : ℕ) → m < n → cells_before p m + memory_size_at p m ≤ cells_before p n
@@ -71,58 +85,49 @@ matches_agree p mask r = agree p mask r 32
 
 -- ---- the rules of a group that match, before and after those looked at
 
-unfoldable pub seen : Bool → ℕ → List ℕ → List ℕ
-seen false r l = l
-seen true r l = r ∷ l
+abbrev pub seen : Option ℕ → List ℕ → List ℕ
+seen None l = l
+seen (Some r) l = r ∷ l
 
-module _ (p : List ℕ) (mask first n i : ℕ) (h : i < n) where
-  left_over : suc (n - (i + 1)) ≡ n - i
+module _ (p : List ℕ) (mask r end : ℕ) (h : r < end) where
+  left_over : suc (end - (r + 1)) ≡ end - r
   left_over = omega arith
 
-  next_rule : suc (first + i) ≡ first + (i + 1)
-  next_rule = omega arith
+  by_match : Bool → List ℕ
+  by_match b = elim b [ true ↦ r ∷ matching p mask (suc r) (end - (r + 1)) | false ↦ matching p mask (suc r) (end - (r + 1)) ]
 
-  pub match_yes : matches_of p mask (first + i) ≡ true → matching p mask (first + i) (n - i) ≡ (first + i) ∷ matching p mask (first + (i + 1)) (n - (i + 1))
-  unfolding matching
-  match_yes e =
-      rw (← left_over)
-      (ap (λ (b : Bool). elim b [ true ↦ (first + i) ∷ matching p mask (suc (first + i)) (n - (i + 1)) | false ↦ matching p mask (suc (first + i)) (n - (i + 1)) ]) e ∙ rw next_rule)
+  pub match_yes : matches_of p mask r ≡ true → matching p mask r (end - r) ≡ r ∷ matching p mask (r + 1) (end - (r + 1))
+  unfolding matching by_match
+  match_yes e = rw (← left_over) (ap by_match e ∙ rw (add-one r))
 
-  pub match_no : matches_of p mask (first + i) ≡ false → matching p mask (first + i) (n - i) ≡ matching p mask (first + (i + 1)) (n - (i + 1))
-  unfolding matching
-  match_no e =
-      rw (← left_over)
-      (ap (λ (b : Bool). elim b [ true ↦ (first + i) ∷ matching p mask (suc (first + i)) (n - (i + 1)) | false ↦ matching p mask (suc (first + i)) (n - (i + 1)) ]) e ∙ rw next_rule)
+  pub match_no : matches_of p mask r ≡ false → matching p mask r (end - r) ≡ matching p mask (r + 1) (end - (r + 1))
+  unfolding matching by_match
+  match_no e = rw (← left_over) (ap by_match e ∙ rw (add-one r))
 
   -- a first match, a second, none
-  pub seen_first : (rule : ℕ) {found : Bool} {l : List ℕ} → found ≡ false → l ≡ seen found rule (matching p mask (first + i) (n - i)) → matches_of p mask (first + i) ≡ true
-      → l ≡ seen true (first + i) (matching p mask (first + (i + 1)) (n - (i + 1)))
-  unfolding seen
-  seen_first rule z e m = (rw z at e) ∙ match_yes m
+  pub seen_first : (found : Option ℕ) {l : List ℕ} → is_some found ≡ false → matches_of p mask r ≡ true → l ≡ seen found (matching p mask r (end - r))
+      → l ≡ seen (Some r) (matching p mask (r + 1) (end - (r + 1)))
+  seen_first None z m e = e ∙ match_yes m
+  seen_first (Some q) z m e = absurd (false≢true (sym z))
 
-  pub seen_second : (rule : ℕ) {found : Bool} {l : List ℕ} → found ≡ true → l ≡ seen found rule (matching p mask (first + i) (n - i)) → matches_of p mask (first + i) ≡ true
-      → Refused Ambiguous ≡ only_of l
-  unfolding seen
-  seen_second rule z e m = rw (e, z, match_yes m)
+  pub seen_second : (found : Option ℕ) {l : List ℕ} → is_some found ≡ true → matches_of p mask r ≡ true → l ≡ seen found (matching p mask r (end - r)) → Err Ambiguous ≡ only_of l
+  seen_second None z m e = absurd (false≢true z)
+  seen_second (Some q) z m e = rw (e, match_yes m)
 
-  pub seen_none : (found : Bool) (rule : ℕ) {l : List ℕ} → l ≡ seen found rule (matching p mask (first + i) (n - i)) → matches_of p mask (first + i) ≡ false
-      → l ≡ seen found rule (matching p mask (first + (i + 1)) (n - (i + 1)))
-  seen_none found rule e m = e ∙ ap (seen found rule) (match_no m)
+  pub seen_none : (found : Option ℕ) {l : List ℕ} → matches_of p mask r ≡ false → l ≡ seen found (matching p mask r (end - r)) → l ≡ seen found (matching p mask (r + 1) (end - (r + 1)))
+  seen_none found m e = e ∙ ap (seen found) (match_no m)
 
-pub seen_end : (p : List ℕ) (mask first n i : ℕ) (found : Bool) (rule : ℕ) {l : List ℕ} → n ≤ i → l ≡ seen found rule (matching p mask (first + i) (n - i)) → l ≡ seen found rule []
+-- the end of a group
+pub match_end : (p : List ℕ) (mask r end : ℕ) → end ≤ r → matching p mask r (end - r) ≡ []
 unfolding matching
-seen_end p mask first n i found rule h e = let z : n - i ≡ 0 = omega arith in rw z at e
+match_end p mask r end h = let z : end - r ≡ 0 = omega arith in rw z
 
-pub one_found : (rule : ℕ) {found : Bool} {l : List ℕ} → found ≡ true → l ≡ seen found rule [] → Rule rule ≡ only_of l
-unfolding seen
-one_found rule z e = rw (e, z)
-
-pub none_found : (rule : ℕ) {found : Bool} {l : List ℕ} → found ≡ false → l ≡ seen found rule [] → Refused Unmatched ≡ only_of l
-unfolding seen
-none_found rule z e = rw (e, z)
+pub seen_end : (found : Option ℕ) {l m : List ℕ} → l ≡ seen found m → m ≡ [] → ok_or found Unmatched ≡ only_of l
+seen_end None e z = rw (e, z)
+seen_end (Some r) e z = rw (e, z)
 
 -- what it says of those that match that there is one, or none or two
-only_one : (l : List ℕ) (r : ℕ) → only_of l ≡ Rule r → l ≡ r ∷ []
+only_one : (l : List ℕ) (r : ℕ) → only_of l ≡ Ok r → l ≡ r ∷ []
 only_one [] r h = let z : ◌≡◌ {A = ℕ} 0 1 = cc h in absurd (omega arith)
 only_one (q ∷ []) r h = let z : q ≡ r = cc h in ap (λ (x : ℕ). x ∷ []) z
 only_one (q ∷ x ∷ l) r h = let z : ◌≡◌ {A = ℕ} 0 1 = cc h in absurd (omega arith)
@@ -160,7 +165,7 @@ module _ (p : List ℕ) (mask g n : ℕ) (h : g < n) where
   one_after r (unfired k) = refl
 
   -- one rule of the group matches
-  pub fire_next : (l : List ℕ) (r : ℕ) {x : Fired p} → g < length l → x ≡ after p (take g l) (firing p mask g (n - g)) → only_of (matching p mask (rules_before p g) (group_at p g)) ≡ Rule r
+  pub fire_next : (l : List ℕ) (r : ℕ) {x : Fired p} → g < length l → x ≡ after p (take g l) (firing p mask g (n - g)) → only_of (matching p mask (rules_before p g) (group_at p g)) ≡ Ok r
       → x ≡ after p (take (g + 1) (set l g r)) (firing p mask (g + 1) (n - (g + 1)))
   fire_next l r k e m =
       let rest = firing p mask (g + 1) (n - (g + 1)) in
@@ -168,13 +173,13 @@ module _ (p : List ℕ) (mask g n : ℕ) (h : g < n) where
       e ∙ ap (after p (take g l)) (group_next ∙ ap (λ (y : List ℕ). one_of p y rest) one ∙ one_after r rest)
       ∙ after_more p (take g l) r rest ∙ rw (add-one g, take-suc-set l g r k)
 
-  one_not : (l : List ℕ) (f : Fired p) (a : Answer) → only_of l ≡ Refused a → one_of p l f ≡ unfired (number_of a)
-  one_not [] f a h = let z : Unmatched ≡ a = cc h in ap (λ (x : Answer). unfired (number_of x)) z
+  one_not : (l : List ℕ) (f : Fired p) (a : Refusal) → only_of l ≡ Err a → one_of p l f ≡ unfired (number_of a)
+  one_not [] f a h = let z : Unmatched ≡ a = cc h in ap (λ (x : Refusal). unfired (number_of x)) z
   one_not (r ∷ []) f a h = let z : ◌≡◌ {A = ℕ} 0 1 = cc h in absurd (omega arith)
-  one_not (r ∷ q ∷ l) f a h = let z : Ambiguous ≡ a = cc h in ap (λ (x : Answer). unfired (number_of x)) z
+  one_not (r ∷ q ∷ l) f a h = let z : Ambiguous ≡ a = cc h in ap (λ (x : Refusal). unfired (number_of x)) z
 
   -- none, or more than one
-  pub fire_stop : (l : List ℕ) (a : Answer) {x : Fired p} → x ≡ after p (take g l) (firing p mask g (n - g)) → only_of (matching p mask (rules_before p g) (group_at p g)) ≡ Refused a
+  pub fire_stop : (l : List ℕ) (a : Refusal) {x : Fired p} → x ≡ after p (take g l) (firing p mask g (n - g)) → only_of (matching p mask (rules_before p g) (group_at p g)) ≡ Err a
       → unfired (number_of a) ≡ x
   unfolding after
   fire_stop l a e m =

@@ -2,7 +2,7 @@
 use Rattle.std.specs.Prelude.{Bool, true, false, ◌&&◌, ◌||◌, List, [], ◌∷◌, ℕ, zero, suc, eqb}
 use Rattle.language.specs.Values.{bit_of}
 use Rattle.plan.specs.Layout.{group_at, rules_before, present_at, absent_at}
-use Rattle.judged.specs.declared.Answer.TheVariants.{Unmatched, Ambiguous}
+use Rattle.judged.specs.declared.Refusal.TheVariants.{Unmatched, Ambiguous}
 use Rattle.judged.specs.Answers.{number_of}
 
 module _ (p : List ℕ) where

@@ -7,20 +7,20 @@ mod groups;
 mod tests;
 
 ghost use Rattle.std.specs.Prelude.{◌≡◌, true, length};
-ghost use Rattle.language.specs.Limits.{limits};
 ghost use Rattle.plan.specs.Layout.{port_count, memory_count, cells_before};
 ghost use Rattle.plan.specs.Sound.{sections_ok};
-ghost use Rattle.judged.specs.Answers.{number_of};
 ghost use Rattle.judged.specs.Judged.{judged, judged_as};
 
 use groups::fire;
 pub use tests::counts;
 use tests::fitting;
 
-// How a cycle ends: it is accepted, or why it is refused.
-#[derive(Clone, Copy)]
-pub enum Answer {
-    Accepted,
+// The rules that fire are one of each group.
+pub const GROUPS: usize = language::Plan::GROUPS as usize;
+
+// Why a cycle is refused.
+#[derive(Clone, Copy, PartialEq, Eq)]
+pub enum Refusal {
     Unsound,
     Miscounted,
     Unfit,
@@ -29,36 +29,39 @@ pub enum Answer {
     Clash,
 }
 
-// What is known before anything is run: the rules that fire act, or why the cycle is refused.
-#[derive(Clone, Copy)]
-pub enum Judged {
-    Act,
-    Refuse(Answer),
-}
+// 01's number of a refusal.
+impl From<Refusal> for u32 {
+    ghost use Rattle.std.specs.Prelude.{◌≡◌};
+    ghost use Rattle.judged.specs.Answers.{number_of};
 
-// 01's number of an answer.
-pub fn number(answer: Answer) -> u32
-    ensures { result ≡ number_of answer }
-{
-    match answer {
-        Answer::Accepted => 0,
-        Answer::Unsound => 20,
-        Answer::Miscounted => 21,
-        Answer::Unfit => 22,
-        Answer::Unmatched => 23,
-        Answer::Ambiguous => 24,
-        Answer::Clash => 25,
+    ghost from_gives = { λ why number. number ≡ number_of why };
+
+    fn from(why: Refusal) -> u32 {
+        match why {
+            Refusal::Unsound => 20,
+            Refusal::Miscounted => 21,
+            Refusal::Unfit => 22,
+            Refusal::Unmatched => 23,
+            Refusal::Ambiguous => 24,
+            Refusal::Clash => 25,
+        }
     }
 }
 
-// Numbers 22 to 24, or the rules that fire, into `fired`.
-pub fn judge(plan: &[u32], mask: u32, values: &[u64], memory: &[u64], fired: &mut [u32]) -> Judged
-    requires plan_value { (sections_ok plan.now ≡ true) × (length fired.old ≡ limits.groups) }
+// The rules that fire, into `fired`, or numbers 22 to 24.
+pub fn judge(
+    plan: &[u32],
+    mask: u32,
+    values: &[u64],
+    memory: &[u64],
+    fired: &mut [u32; GROUPS],
+) -> Result<(), Refusal>
+    requires plan_value { sections_ok plan.now ≡ true }
     requires values_len { (length values.now ≡ port_count plan.now) × (length memory.now ≡ cells_before plan.now (memory_count plan.now)) }
     ensures { judged_as plan.now result fired.new ≡ judged plan.now mask values.now memory.now }
 {
     if !fitting(plan, mask, values, memory) {
-        return Judged::Refuse(Answer::Unfit);
+        return Err(Refusal::Unfit);
     }
     fire(plan, mask, fired)
 }

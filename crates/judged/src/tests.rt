@@ -1,11 +1,12 @@
 // The tests of a cycle, before anything of it is worked out: numbers 21 and 22.
-ghost use Rattle.std.specs.Prelude.{◌≡◌, ◌+◌, ◌≤◌, length};
+ghost use Rattle.std.specs.Prelude.{◌≡◌, ◌+◌, ◌≤◌, bit_or, length};
+ghost use Rattle.std.specs.List.{fold};
 ghost use Rattle.plan.specs.Layout.{port_count, memory_count, memory_size_at, cells_before};
 ghost use Rattle.judged.specs.Tests.{all_below, input_fits, memory_fits};
 ghost use Rattle.judged.specs.Tests.{counts as tests_counts};
 ghost use Rattle.judged.specs.Tests.{fitting as tests_fitting};
 
-use item_steps::{slot, wide};
+use item_steps::slot;
 use plan::{
     OUTPUT, bit, cells_before, memory_count, memory_size, memory_width, place, port_at, port_count,
     within,
@@ -35,12 +36,17 @@ fn inputs_fit(plan: &[u32], mask: u32, values: &[u64], n: u32) -> bool
     ensures { result ≡ all_below plan.now n (input_fits plan.now mask values.now) }
 {
     let mut ok = true;
-    let mut i = 0u32;
-    while i < n {
-        ok = ok & input_fits(plan, mask, values, i);
-        i += 1;
+    for i in 0..n {
+        ok &= input_fits(plan, mask, values, i);
     }
     ok
+}
+
+// The bits of all cells.
+fn together(cells: &[u64]) -> u64
+    ensures { result ≡ fold bit_or 0 cells.now }
+{
+    cells.iter().fold(0, |bits, cell| bits | *cell)
 }
 
 // The cells of a memory fit its width: where all their bits together do.
@@ -50,14 +56,10 @@ fn memory_fits(plan: &[u32], memory: &[u64], m: u32) -> bool
 {
     let first = cells_before(plan, m);
     let size = place(memory_size(plan, m));
-    let w = memory_width(plan, m);
-    let mut bits = 0u64;
-    let mut i = 0usize;
-    while i < size {
-        bits = bits | memory[first + i];
-        i += 1;
-    }
-    within(bits, w)
+    within(
+        together(&memory[first..first + size]),
+        memory_width(plan, m),
+    )
 }
 
 fn memories_fit(plan: &[u32], memory: &[u64], n: u32) -> bool
@@ -65,10 +67,8 @@ fn memories_fit(plan: &[u32], memory: &[u64], n: u32) -> bool
     ensures { result ≡ all_below plan.now n (memory_fits plan.now memory.now) }
 {
     let mut ok = true;
-    let mut m = 0u32;
-    while m < n {
-        ok = ok & memory_fits(plan, memory, m);
-        m += 1;
+    for m in 0..n {
+        ok &= memory_fits(plan, memory, m);
     }
     ok
 }
@@ -79,7 +79,7 @@ pub fn fitting(plan: &[u32], mask: u32, values: &[u64], memory: &[u64]) -> bool
     ensures { result ≡ tests_fitting plan.now mask values.now memory.now }
 {
     let n = port_count(plan);
-    within(wide(mask), n)
+    within(u64::from(mask), n)
         & inputs_fit(plan, mask, values, n)
         & memories_fit(plan, memory, memory_count(plan))
 }

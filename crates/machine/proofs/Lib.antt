@@ -1,4 +1,3 @@
 pub mod Rules
 pub mod Safe
 pub mod Turns
-pub mod Zeros

@@ -2,7 +2,6 @@
 use Prim.Native.Nat.{ℕ, zero, suc, ◌+◌, ◌-◌, ◌*◌, ◌/◌, ◌%◌, ◌≤◌, ◌<◌}
 use mathlib.Core.Path.{◌≡◌, refl, ap, ap₂, ◌∙◌, subst}
 use mathlib.Core.List.{List, [], ◌∷◌, ◌++◌}
-use mathlib.Core.Bool.{Bool}
 use native.Mathlib.Numerals.{add-one}
 use native.Mathlib.Omega.{arith}
 use lib.ListN.{length, get_or, take, drop, replicate, length-replicate, drop_of_length-le}
@@ -11,6 +10,7 @@ use Rattle.plan.specs.Items.{decode_all}
 use Rattle.plan.specs.Layout.{port_count, group_count, present_at, length_at, code_before, code_from, code_at}
 use Rattle.plan.specs.Sound.{rule_check, unset}
 use Rattle.item_steps.specs.Machine.{State, state, exec_rules}
+use Rattle.item_steps.specs.declared.Tables.{Tables}
 use Rattle.machine.specs.Safety.{Safe, Ran}
 use Rattle.machine.specs.Fires.{Fires, rule_run, fired_run}
 use Rattle.machine.proofs.Safe.{slots_start}
@@ -36,18 +36,17 @@ pub rules_done : (p values memory fired : List ℕ) (j : ℕ) (s : State) → le
 unfolding exec_rules
 rules_done p values memory fired j s h = rw (drop_of_length-le fired h)
 
-pub ran_as : {memory outputs next changed : List ℕ} {clash : Bool} {r s : State} → Ran memory outputs next changed clash r → r ≡ s → Ran memory outputs next changed clash s
-ran_as {memory} {outputs} {next} {changed} {clash} l e = subst (λ (x : State). Ran memory outputs next changed clash x) e l
+pub ran_as : {memory outputs : List ℕ} {t : Tables} {r s : State} → Ran memory outputs t r → r ≡ s → Ran memory outputs t s
+ran_as {memory} {outputs} {t} l e = subst (λ (x : State). Ran memory outputs t x) e l
 
 -- ---- the parts of the tables that the rules are run over
 
 pub part_fires : (p values memory fired : List ℕ) (g : ℕ) → g ≡ group_count p → group_count p ≤ length fired → ((j : ℕ) → j < group_count p → Fires p values memory (get_or fired j 0))
-    → (j : ℕ) → j < length (take (g - 0) fired) → Fires p values memory (get_or (take (g - 0) fired) j 0)
+    → (j : ℕ) → j < length (take g fired) → Fires p values memory (get_or (take g fired) j 0)
 part_fires p values memory fired g e h f j k =
-    let z : g - 0 ≡ group_count p = omega arith in
-    let n : length (take (g - 0) fired) ≡ group_count p = ap (λ (i : ℕ). length (take i fired)) z ∙ length-take-le (group_count p) fired h in
+    let n : length (take g fired) ≡ group_count p = ap (λ (i : ℕ). length (take i fired)) e ∙ length-take-le (group_count p) fired h in
     let l : j < group_count p = omega (arith, n, k) in
-    rw (z, get_or-take (group_count p) fired j 0 l) (f j l)
+    rw (e, get_or-take (group_count p) fired j 0 l) (f j l)
 
 abbrev zeros : ℕ → List ℕ
 zeros n = replicate n 0
@@ -57,15 +56,15 @@ take_zeros zero n h = refl
 take_zeros (suc k) zero h = absurd (omega arith)
 take_zeros (suc k) (suc n) h = ap (λ (l : List ℕ). 0 ∷ l) (take_zeros k n (omega arith))
 
-part_zeros : (n m k : ℕ) → n ≡ m → m ≤ k → take (n - 0) (zeros k) ≡ zeros m
-part_zeros n m k e h = let z : n - 0 ≡ m = omega arith in ap (λ (i : ℕ). take i (zeros k)) z ∙ take_zeros m k h
+part_zeros : (n m k : ℕ) → n ≡ m → m ≤ k → take n (zeros k) ≡ zeros m
+part_zeros n m k e h = ap (λ (i : ℕ). take i (zeros k)) e ∙ take_zeros m k h
 
 -- outputs that are 0: of a plan's ports, and how many there are
 module _ (os : List ℕ) (n m k : ℕ) (z : os ≡ zeros k) (e : n ≡ m) (h : m ≤ k) where
-  part_of_zeros : take (n - 0) os ≡ zeros m
-  part_of_zeros = ap (take (n - 0)) z ∙ part_zeros n m k e h
+  part_of_zeros : take n os ≡ zeros m
+  part_of_zeros = ap (take n) z ∙ part_zeros n m k e h
 
-  pub part_long : length (take (n - 0) os) ≡ m
+  pub part_long : length (take n os) ≡ m
   part_long = ap length part_of_zeros ∙ length-replicate m 0
 
   pub zeros_room : n ≤ length os
@@ -73,11 +72,11 @@ module _ (os : List ℕ) (n m k : ℕ) (z : os ≡ zeros k) (e : n ≡ m) (h : m
 
 -- what the rules leave in the part of the outputs that the plan has
 module _ (p values memory fired os : List ℕ) (g n : ℕ) (d : g ≡ group_count p) (e : n ≡ port_count p) (h : port_count p ≤ 16) (z : os ≡ zeros 16) where
-  pub acted : (ys rest : List ℕ) {next changed : List ℕ} {clash : Bool} → length ys ≡ length (take (n - 0) os)
-      → Ran memory ys next changed clash (exec_rules p values memory (take (g - 0) fired) (state [] [] (take (n - 0) os) []))
-      → Ran memory (take (port_count p) (ys ++ rest)) next changed clash (fired_run p values memory (take (group_count p) fired))
+  pub acted : (ys rest : List ℕ) {t : Tables} → length ys ≡ length (take n os)
+      → Ran memory ys t (exec_rules p values memory (take g fired) (state [] [] (take n os) []))
+      → Ran memory (take (port_count p) (ys ++ rest)) t (fired_run p values memory (take (group_count p) fired))
   acted ys rest l r =
       let a : g - 0 ≡ group_count p = omega arith in
       let k : length ys ≡ port_count p = l ∙ part_long os n (port_count p) 16 z e h in
       ran_as (record { output = take_at ys rest (port_count p) k ∙ r.output; write = r.write })
-      (ap₂ (λ (fs os : List ℕ). exec_rules p values memory fs (state [] [] os [])) (ap (λ (i : ℕ). take i fired) a) (part_of_zeros os n (port_count p) 16 z e h))
+      (ap₂ (λ (fs os : List ℕ). exec_rules p values memory fs (state [] [] os [])) (ap (λ (i : ℕ). take i fired) d) (part_of_zeros os n (port_count p) 16 z e h))

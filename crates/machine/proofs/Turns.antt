@@ -2,7 +2,6 @@
 use Prim.Native.Nat.{ℕ, ◌+◌, ◌-◌, ◌*◌, ◌≤◌, ◌<◌}
 use mathlib.Core.Path.{◌≡◌, sym, ap, ◌∙◌, subst}
 use mathlib.Core.List.{List}
-use mathlib.Core.Bool.{Bool}
 use lib.ListN.{length}
 use Rattle.language.specs.Meaning.{Change}
 use Rattle.plan.specs.declared.Item.{Item}
@@ -15,6 +14,7 @@ use Rattle.soundness.proofs.Turns.{rest, rest_next, rest_none}
 use Rattle.plan.proofs.Waits.{length_top}
 use Rattle.item_steps.specs.Machine.{State, state, exec1, exec_all}
 use Rattle.item_steps.specs.Ready.{Ready, Left}
+use Rattle.item_steps.specs.declared.Tables.{Tables}
 use Rattle.machine.specs.Safety.{Good, CodeGiven, Safe, Ran}
 use Rattle.machine.proofs.Safe.{Found, found}
 
@@ -45,14 +45,13 @@ module _ (p : List ℕ) (present taken : ℕ) (values memory : List ℕ) (g : Co
       (good_next (rules_of p present taken) p at items i f.0 f.1 f.2 h l f.3) f.4 (record { fit = f.5.fit; slot = f.5.slot; outs = f.5.outs })
 
 -- the tables are the state
-pub left_state : {memory stack : List ℕ} {n : ℕ} {slots outputs next changed : List ℕ} {clash : Bool} {s : State}
-    → Left memory stack n slots outputs next changed clash s → state (top stack n) slots outputs s.writes ≡ s
+pub left_state : {memory : List ℕ} {n : ℕ} {slots outputs : List ℕ} {t : Tables} {s : State} → Left memory n slots outputs t s → state (top t.stack n) slots outputs s.writes ≡ s
 left_state l = rw (l.waits, l.slot, l.output)
 
-pub ready_of : (p : List ℕ) (present taken : ℕ) (values memory : List ℕ) (is : List Item) (i : Item) (stack : List ℕ) (n : ℕ) (slots outputs : List ℕ) {next changed : List ℕ} {clash : Bool} {s : State}
-    → n ≤ 256 → Left memory stack n slots outputs next changed clash s → Found p present taken values memory is i s → Ready values memory stack n slots outputs i
-ready_of p present taken values memory is i stack n slots outputs {next} {changed} {clash} {s} h l f =
-    let e : length s.waits ≡ n = sym (ap length l.waits) ∙ length_top stack n in
+pub ready_of : (p : List ℕ) (present taken : ℕ) (values memory : List ℕ) (is : List Item) (i : Item) (n : ℕ) (slots outputs : List ℕ) {t : Tables} {s : State}
+    → n ≤ 256 → Left memory n slots outputs t s → Found p present taken values memory is i s → Ready values memory t.stack n slots outputs i
+ready_of p present taken values memory is i n slots outputs {t} {s} h l f =
+    let e : length s.waits ≡ n = sym (ap length l.waits) ∙ length_top t.stack n in
     record {
       there = rw e at f.there;
       room = rw e at (f.room (rw e h));
@@ -63,10 +62,16 @@ ready_of p present taken values memory is i stack n slots outputs {next} {change
 pub not_bad : {values memory stack : List ℕ} {n : ℕ} {slots outputs : List ℕ} {i : Item} → Ready values memory stack n slots outputs i → i ≡ Bad → ⊥
 not_bad r e = rw e at r.asks
 
-pub left_turn : {memory stack : List ℕ} {n : ℕ} {slots outputs next changed : List ℕ} {clash : Bool} (values : List ℕ) {j k : Item} {r s : State}
-    → j ≡ k → r ≡ s → Left memory stack n slots outputs next changed clash (exec1 values memory j r) → Left memory stack n slots outputs next changed clash (exec1 values memory k s)
+-- the i-th item finds what it asks
+pub turn_ready : (p : List ℕ) (present taken : ℕ) (values memory : List ℕ) → CodeGiven p present values memory → (at items i n : ℕ) (slots outputs : List ℕ) {t : Tables} {s : State}
+    → n ≤ 256 → i < items → at + 4 * (items - i) ≤ length p → Left memory n slots outputs t s → Safe p present taken (rest p at items i) s → Ready values memory t.stack n slots outputs (item_at p at)
+turn_ready p present taken values memory g at items i n slots outputs {t} {s} h k z l f =
+    ready_of p present taken values memory (rest p (at + 4) items (i + 1)) (item_at p at) n slots outputs h l (turn_found p present taken values memory g at items i k z s f)
+
+pub left_turn : {memory : List ℕ} {n : ℕ} {slots outputs : List ℕ} {t : Tables} (values : List ℕ) {j k : Item} {r s : State}
+    → j ≡ k → r ≡ s → Left memory n slots outputs t (exec1 values memory j r) → Left memory n slots outputs t (exec1 values memory k s)
 left_turn values d e l = rw (← d, ← e) l
 
-pub ran_of : {memory stack : List ℕ} {n : ℕ} {slots outputs next changed : List ℕ} {clash : Bool} {r s : State} → Left memory stack n slots outputs next changed clash r → r ≡ s → Ran memory outputs next changed clash s
-ran_of {memory} {stack} {n} {slots} {outputs} {next} {changed} {clash} l e =
-    subst (λ (x : State). Ran memory outputs next changed clash x) e (record { output = l.output; write = l.write })
+pub ran_of : {memory : List ℕ} {n : ℕ} {slots outputs : List ℕ} {t : Tables} {r s : State} → Left memory n slots outputs t r → r ≡ s → Ran memory outputs t s
+ran_of {memory} {n} {slots} {outputs} {t} l e =
+    subst (λ (x : State). Ran memory outputs t x) e (record { output = l.output; write = l.write })

@@ -1,10 +1,11 @@
 -- A rule that fires: what its run may count on, and what it does. Assumes nothing: these are definitions.
-use Rattle.std.specs.Prelude.{◌≡◌, Bool, List, [], ℕ, ◌+◌, ◌%◌, ◌≤◌, length, take, replicate}
+use Rattle.std.specs.Prelude.{◌≡◌, List, [], ℕ, ◌+◌, ◌%◌, ◌≤◌, length, take, replicate}
 use Rattle.language.specs.Meaning.{Change}
 use Rattle.plan.specs.Items.{decode_all}
 use Rattle.plan.specs.Layout.{port_count, group_count, present_at, length_at, code_before, code_from, code_at}
 use Rattle.plan.specs.Sound.{rule_check, ended, slots}
 use Rattle.item_steps.specs.Machine.{State, state, exec_all, exec_rules}
+use Rattle.item_steps.specs.declared.Tables.{Tables}
 use Rattle.machine.specs.Safety.{CodeGiven, Ran}
 
 -- a rule whose code can be run: it stands in the plan, it was checked, and what it reads fits
@@ -25,5 +26,5 @@ abbrev pub fired_run : (p values memory fired : List ℕ) → State
 fired_run p values memory fired = exec_rules p values memory fired (state [] [] (replicate (port_count p) 0) [])
 
 -- what they leave: the outputs of the plan's ports, and the cells
-abbrev pub FiredRan : (p values memory fired outputs next changed : List ℕ) (clash : Bool) → Type 0
-FiredRan p values memory fired outputs next changed clash = Ran memory (take (port_count p) outputs) next changed clash (fired_run p values memory (take (group_count p) fired))
+abbrev pub FiredRan : (p values memory fired outputs : List ℕ) → Tables → Type 0
+FiredRan p values memory fired outputs t = Ran memory (take (port_count p) outputs) t (fired_run p values memory (take (group_count p) fired))

@@ -1,5 +1,5 @@
 -- What the check of a rule's code says of its run: the values that wait fit the widths, and the rest of the check succeeds. Assumes nothing: these are definitions.
-use Rattle.std.specs.Prelude.{◌≡◌, Bool, true, List, [], ◌∷◌, ℕ, ◌+◌, ◌*◌, ◌^◌, ◌≤◌, ◌<◌, length, get_or, take, drop}
+use Rattle.std.specs.Prelude.{◌≡◌, true, List, [], ◌∷◌, ℕ, ◌+◌, ◌*◌, ◌^◌, ◌≤◌, ◌<◌, length, get_or, take, drop}
 use Rattle.language.specs.Meaning.{Change}
 use Rattle.plan.specs.declared.Item.{Item}
 use Rattle.plan.specs.Layout.{port_count, port_at, memory_width_at}
@@ -7,7 +7,8 @@ use Rattle.plan.specs.Sound.{Check, check, Rules, check_all, end_of, ended, inpu
 use Rattle.plan.specs.Items.{decode_all}
 use Rattle.plan.specs.Sound.{rules_of}
 use Rattle.item_steps.specs.Machine.{State, state, exec_all}
-use Rattle.item_steps.specs.Ready.{Buffered}
+use Rattle.item_steps.specs.Ready.{Writes}
+use Rattle.item_steps.specs.declared.Tables.{Tables}
 
 -- the rest of the check succeeds
 abbrev pub Good : Rules → List Item → Check → Type 0
@@ -41,13 +42,13 @@ abbrev pub Safe : List ℕ → ℕ → ℕ → List Item → State → Type 0
 Safe p present taken is s = (ws : List ℕ) × (lw : List ℕ) × (d : ℕ) × Good (rules_of p present taken) is (check ws lw d) × (length lw ≡ 48) × StateHeld p ws lw s
 
 -- what a rule's run leaves: outputs and writes
-pub record Ran (memory outputs next changed : List ℕ) (clash : Bool) (s : State) : Type 0 where
+pub record Ran (memory outputs : List ℕ) (t : Tables) (s : State) : Type 0 where
   pub output : outputs ≡ s.outputs
-  pub write : Buffered memory next changed clash s.writes
+  pub write : Writes memory t s.writes
 
 -- the tables hold some writes, whatever they are
-abbrev pub Held : (memory next changed : List ℕ) (clash : Bool) → Type 0
-Held memory next changed clash = (qs : List (Change ℕ)) × Buffered memory next changed clash qs
+abbrev pub Held : (memory : List ℕ) → Tables → Type 0
+Held memory t = (qs : List (Change ℕ)) × Writes memory t qs
 
 -- some items from a place of the plan on
 abbrev pub items_from : (p : List ℕ) (from items : ℕ) → List Item

@@ -1,51 +1,43 @@
 // The code of the rules that fire, over tables that nobody sees.
-// What comes in: a sound plan, the rules that fire, values, memory. What goes out: the outputs, the
-// cells as they will be, and whether a cell was written twice.
+// What comes in: a sound plan, the rules that fire, values, memory. What goes out: the outputs, and in the
+// tables the cells as they will be and whether a cell was written twice.
 #![tactic(auto)]
 
 mod code;
-mod tables;
 
 ghost use Rattle.std.specs.Prelude.{ℕ, ◌≤◌, ◌<◌, ◌≡◌, length, get_or, replicate};
 ghost use Rattle.language.specs.Limits.{limits};
 ghost use Rattle.plan.specs.Layout.{port_count, group_count};
 ghost use Rattle.machine.specs.Fires.{Fires, FiredRan};
-ghost use Rattle.item_steps.specs.Tables.{Tables};
 
 use code::run_rules;
+use item_steps::Tables;
 use plan::{group_count, place, port_count};
-pub use tables::copy;
-use tables::prepare;
 
-// The rules that fire, one of each group, over cells and outputs that nobody sees yet: whether a cell was written twice.
+// The rules that fire, one of each group, over cells and outputs that nobody sees yet.
 pub fn act(
     plan: &[u32],
     fired: &[u32],
     values: &[u64],
     memory: &[u64],
     outputs: &mut [u64],
-    stack: &mut [u64],
-    next: &mut [u64],
-    changed: &mut [u32],
-) -> bool
+    tables: &mut Tables,
+)
     requires plan_bound { (port_count plan.now ≤ limits.ports) × (group_count plan.now ≤ length fired.now) }
     requires outputs_value { outputs.old ≡ replicate limits.ports 0 }
-    requires tables { Tables memory.now stack.old next.old changed.old }
+    requires tables { length memory.now ≤ limits.cells }
     requires by_index { (j : ℕ) → j < group_count plan.now → Fires plan.now values.now memory.now (get_or fired.now j 0) }
-    ensures { FiredRan plan.now values.now memory.now fired.now
-        outputs.new next.new changed.new result }
+    ensures { FiredRan plan.now values.now memory.now fired.now outputs.new tables.new }
 {
     let groups = place(group_count(plan));
     let ports = place(port_count(plan));
-    prepare(memory, next, changed);
+    tables.begin(memory);
     run_rules(
         plan,
-        &fired[0..groups],
+        &fired[..groups],
         values,
         memory,
-        &mut outputs[0..ports],
-        stack,
-        next,
-        changed,
-    )
+        &mut outputs[..ports],
+        tables,
+    );
 }

@@ -19,9 +19,10 @@ use Rattle.judged.specs.Groups.{Fired, fired, unfired, firing}
 use Rattle.judged.specs.Tests.{fitting, counts}
 use Rattle.turn.specs.Cycle.{refused_by, ends, sound_cycle, cycle_of}
 use Rattle.machine.specs.Safety.{Ran}
-use Rattle.judged.specs.declared.Answer.{Answer}
-use Rattle.judged.specs.declared.Answer.TheVariants.{Accepted, Unsound, Miscounted, Unfit, Clash}
-use Rattle.judged.specs.Answers.{number_of}
+use Rattle.item_steps.specs.declared.Tables.{Tables}
+use Rattle.judged.specs.declared.Refusal.{Refusal}
+use Rattle.judged.specs.declared.Refusal.TheVariants.{Unsound, Miscounted, Unfit, Clash}
+use Rattle.judged.specs.Answers.{number_of, accepted}
 use Rattle.judged.specs.Judged.{judged}
 use Rattle.turn.specs.Turn.{outcome}
 
@@ -65,19 +66,19 @@ module _ (p : List ℕ) (mask : ℕ) (values memory outs : List ℕ) where
   by_clash s b =
       elim b [
         | true ↦ refused_by p (number_of Clash) memory outs
-        | false ↦ record { answer = number_of Accepted; count = ones_of 32 mask; outputs = s.outputs; memory = written s.writes memory }
+        | false ↦ record { answer = accepted; count = ones_of 32 mask; outputs = s.outputs; memory = written s.writes memory }
       ]
 
-  ends_25 : {held next changed : List ℕ} {s : State} {b : Bool} → Ran memory held next changed b s → b ≡ true → ends p mask memory outs s ≡ refused_by p (number_of Clash) memory outs
+  ends_25 : {held : List ℕ} {t : Tables} {s : State} → Ran memory held t s → t.clash ≡ true → ends p mask memory outs s ≡ refused_by p (number_of Clash) memory outs
   unfolding ends by_clash
-  ends_25 {held} {next} {changed} {s} r e = ap (by_clash s) (sym r.write.clashes ∙ e)
+  ends_25 {held} {t} {s} r e = ap (by_clash s) (sym r.write.clashes ∙ e)
 
-  ends_0 : {held next changed : List ℕ} {s : State} {b : Bool} → Ran memory held next changed b s → b ≡ false
-      → ends p mask memory outs s ≡ outcome (number_of Accepted) (ones_of 32 mask) held (take (length memory) next)
+  ends_0 : {held : List ℕ} {t : Tables} {s : State} → Ran memory held t s → t.clash ≡ false
+      → ends p mask memory outs s ≡ outcome accepted (ones_of 32 mask) held (take (length memory) t.next)
   unfolding ends by_clash
-  ends_0 {held} {next} {changed} {s} r e =
+  ends_0 {held} {t} {s} r e =
       ap (by_clash s) (sym r.write.clashes ∙ e)
-      ∙ ap₂ (λ (o m : List ℕ). outcome (number_of Accepted) (ones_of 32 mask) o m) (sym r.output) (sym (r.write.holds e))
+      ∙ ap₂ (λ (o m : List ℕ). outcome accepted (ones_of 32 mask) o m) (sym r.output) (sym (r.write.holds e))
 
   module _ (hc : counts p values memory outs ≡ true) where
     counted_on : sound_cycle p mask values memory outs ≡ by_fit (fitting p mask values memory)
@@ -98,17 +99,17 @@ module _ (p : List ℕ) (mask : ℕ) (values memory outs : List ℕ) where
           go true = refl
           go false = refl
 
-      pub turn_refused : (a : Answer) → unfired (number_of a) ≡ judged p mask values memory → outcome (number_of a) 0 outs memory ≡ cycle_of p mask values memory outs
+      pub turn_refused : (a : Refusal) → unfired (number_of a) ≡ judged p mask values memory → outcome (number_of a) 0 outs memory ≡ cycle_of p mask values memory outs
       unfolding refused_by
       turn_refused a e = sym (as_judged ∙ ap by_groups (sym e))
 
-      module _ (l : List ℕ) (e : fired l ≡ judged p mask values memory) {held next changed : List ℕ} {b : Bool} (r : Ran memory held next changed b (exec_rules p values memory l start)) where
-        pub turn_clash : b ≡ true → outcome (number_of Clash) 0 outs memory ≡ cycle_of p mask values memory outs
+      module _ (l : List ℕ) (e : fired l ≡ judged p mask values memory) {held : List ℕ} {t : Tables} (r : Ran memory held t (exec_rules p values memory l start)) where
+        pub turn_clash : t.clash ≡ true → outcome (number_of Clash) 0 outs memory ≡ cycle_of p mask values memory outs
         unfolding refused_by
         turn_clash z = sym (as_judged ∙ ap by_groups (sym e) ∙ ends_25 r z)
 
-        pub turn_ran : {count : ℕ} {o m : List ℕ} → b ≡ false → count ≡ ones_of 32 mask → o ≡ held → m ≡ take (length memory) next
-            → outcome (number_of Accepted) count o m ≡ cycle_of p mask values memory outs
+        pub turn_ran : {count : ℕ} {o m : List ℕ} → t.clash ≡ false → count ≡ ones_of 32 mask → o ≡ held → m ≡ take (length memory) t.next
+            → outcome accepted count o m ≡ cycle_of p mask values memory outs
         turn_ran z c d k = rw (c, d, k) (sym (as_judged ∙ ap by_groups (sym e) ∙ ends_0 r z))
 
 -- ---- a cycle that is refused before it is judged
@@ -120,14 +121,6 @@ not_sound p mask values memory outs h = sym (cycle_20 p mask values memory outs 
 pub not_counted_law : (p : List ℕ) (mask : ℕ) (values memory outs : List ℕ) → sound_of p ≡ true → counts p values memory outs ≡ false → outcome (number_of Miscounted) 0 outs memory ≡ cycle_of p mask values memory outs
 unfolding refused_by
 not_counted_law p mask values memory outs h k = sym (cycle_sound p mask values memory outs h ∙ cycle_21 p mask values memory outs k)
-
--- ---- what is committed
-
-pub paste_whole : (d s : List ℕ) (n : ℕ) → n ≡ length d → paste d 0 s n ≡ take (length d) s
-paste_whole d s n k =
-    let e : 0 + length d ≡ length d = omega arith in
-    let h : length d ≤ length d = omega arith in
-    rw (k, e, drop_of_length-le d h) (append-nil (take (length d) s))
 
 -- ---- the tests
 

@@ -5,8 +5,8 @@ use Rattle.language.specs.Meaning.{Outcome, twice, written}
 use Rattle.plan.specs.Layout.{port_count, group_count}
 use Rattle.plan.specs.Sound.{sound_of}
 use Rattle.item_steps.specs.Machine.{State, state, exec_rules}
-use Rattle.judged.specs.declared.Answer.TheVariants.{Accepted, Unsound, Miscounted, Unfit, Clash}
-use Rattle.judged.specs.Answers.{number_of}
+use Rattle.judged.specs.declared.Refusal.TheVariants.{Unsound, Miscounted, Unfit, Clash}
+use Rattle.judged.specs.Answers.{number_of, accepted}
 use Rattle.judged.specs.Groups.{fired, unfired, firing}
 use Rattle.judged.specs.Tests.{fitting, counts}
 
@@ -20,7 +20,7 @@ module _ (p : List ℕ) where
   ends mask memory outputs s =
       elim (twice s.writes) [
         | true ↦ refused_by (number_of Clash) memory outputs
-        | false ↦ record { answer = number_of Accepted; count = ones_of 32 mask; outputs = s.outputs; memory = written s.writes memory }
+        | false ↦ record { answer = accepted; count = ones_of 32 mask; outputs = s.outputs; memory = written s.writes memory }
       ]
 
   -- a cycle of a plan that is known to be sound: answers 21 to 25 and 0

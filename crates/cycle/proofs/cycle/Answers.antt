@@ -5,14 +5,14 @@ use Rattle.cycle.proofs.Night.{one_fits, one_cycle}
 use Rattle.cycle.proofs.cycle.Goals as goal
 
 pub returns-then-not-sound : goal.returns-then-not-sound
-returns-then-not-sound c = let args = c.args in rw (c.refused.ensures.0, c.refused.ensures.1) (not_sound args.plan.now args.mask args.values.now args.memory.now args.outputs.now (sym c.sound.ensures ∙ c.if-not-sound.true))
+returns-then-not-sound c = let args = c.args in rw (c.from.ensures.0, c.from.ensures.1) (not_sound args.plan.now args.mask args.values.now args.memory.now args.outputs.now (sym c.sound.ensures ∙ c.if-not-sound.true))
 
 pub returns-then-not-counts : goal.returns-then-not-counts
 returns-then-not-counts c =
     let the-args = c.args in
     let if1 = c.if-not-sound in
     let args = the-args in
-    rw (c.refused-then-not-counts.ensures.0, c.refused-then-not-counts.ensures.1)
+    rw (c.from-then-not-counts.ensures.0, c.from-then-not-counts.ensures.1)
     (not_counted_law args.plan.now args.mask args.values.now args.memory.now args.outputs.now
     (sym c.sound.ensures ∙ if1.false) (sym c.counts.ensures ∙ c.if-not-counts.true))
 

@@ -5,7 +5,7 @@ use Rattle.cycle.proofs.Night.{run_20, run_21, run_0, ports_some}
 use Rattle.cycle.proofs.run.Goals as goal
 
 pub returns-then-not-sound : goal.returns-then-not-sound
-returns-then-not-sound c = let args = c.args in rw c.number.ensures (sym (run_20 args.plan.now args.masks.now args.values.now args.memory.now args.outputs.now args.answers.now (sym c.sound.ensures ∙ c.if-not-sound.true)))
+returns-then-not-sound c = let args = c.args in rw c.from.ensures (sym (run_20 args.plan.now args.masks.now args.values.now args.memory.now args.outputs.now args.answers.now (sym c.sound.ensures ∙ c.if-not-sound.true)))
 
 pub tables_fit-requires : goal.tables_fit-requires
 tables_fit-requires c = let args = c.args in ports_some args.plan.now (sound_sections args.plan.now (sym c.sound.ensures ∙ c.if-not-sound.false)).0
@@ -15,7 +15,7 @@ returns-then-not-tables_fit c =
     let the-args = c.args in
     let if1 = c.if-not-sound in
     let args = the-args in
-    rw c.number-then-not-tables_fit.ensures
+    rw c.from-then-not-tables_fit.ensures
     (sym
     (run_21 args.plan.now args.masks.now args.values.now args.memory.now args.outputs.now args.answers.now
     (sym c.sound.ensures ∙ if1.false) (sym c.tables_fit.ensures ∙ c.if-not-tables_fit.true)))
@@ -32,7 +32,6 @@ returns c =
     let if1 = c.if-not-sound in
     let if2 = c.if-not-tables_fit in
     let args = the-args in
-    rw c.number-2.ensures
     (c.turns.ensures ∙ sym
     (run_0 args.plan.now args.masks.now args.values.now args.memory.now args.outputs.now args.answers.now
     (sym c.sound.ensures ∙ if1.false) (sym c.tables_fit.ensures ∙ if2.false)))

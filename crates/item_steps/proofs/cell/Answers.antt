@@ -2,17 +2,12 @@
 use Rattle.item_steps.proofs.Leaves.{cell_in, cell_past}
 use Rattle.item_steps.proofs.cell.Goals as goal
 
-pub returns-then-a-wide : goal.returns-then-a-wide
-returns-then-a-wide c =
-    let wide2 = c.wide-then-a-wide in
+pub returns-then-a-from : goal.returns-then-a-from
+returns-then-a-from c =
     let args = c.args in
-    let wide = c.wide in
-    let if1 = c.if-a-wide in
-    rw wide2.ensures (cell_in args.memory.now args.f args.size args.a (rw wide.ensures at if1.true))
+    rw c.from-then-a-from.ensures (cell_in args.memory.now args.f args.size args.a (rw c.from.ensures at c.if-a-from.true))
 
-pub returns-else-a-wide : goal.returns-else-a-wide
-returns-else-a-wide c =
+pub returns-else-a-from : goal.returns-else-a-from
+returns-else-a-from c =
     let args = c.args in
-    let wide = c.wide in
-    let if1 = c.if-a-wide in
-    cell_past args.memory.now args.f args.size args.a (rw wide.ensures at if1.false)
+    cell_past args.memory.now args.f args.size args.a (rw c.from.ensures at c.if-a-from.false)

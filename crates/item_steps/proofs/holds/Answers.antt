@@ -2,4 +2,4 @@
 use Rattle.item_steps.proofs.holds.Goals as goal
 
 pub returns : goal.returns
-returns c = rw (c.slot.ensures, c.wide.ensures)
+returns c = rw (c.slot.ensures, c.from.ensures)

@@ -12,5 +12,5 @@ returns c =
     let pre = c.requires in (
       omega arith,
       top_push args.stack.now (args.n - args.k) args.v (omega arith) ∙ ap (λ (vs : List ℕ). args.v ∷ vs)
-          (sym (top_drop args.stack.now args.n args.k pre.1)),
+          (sym (top_drop args.stack.now args.n args.k pre.0)),
     )

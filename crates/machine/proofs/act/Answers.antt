@@ -1,5 +1,4 @@
 -- `act` meets its contract. Assumes nothing.
-use native.Mathlib.Omega.{arith}
 use mathlib.Core.Path.{◌∙◌}
 use Rattle.plan.specs.Layout.{port_count}
 use Rattle.machine.proofs.Rules.{part_fires, part_long, acted}
@@ -8,11 +7,10 @@ use Rattle.machine.proofs.act.Goals as goal
 pub run_rules-requires : goal.run_rules-requires
 run_rules-requires c =
     let g = c.place-groups.ensures.0 ∙ c.group_count.ensures in
-    let n = c.place-ports.ensures.0 ∙ c.port_count.ensures in
-    let t = c.requires.tables in record {
+    let n = c.place-ports.ensures.0 ∙ c.port_count.ensures in record {
       by_index = part_fires c.args.plan.now c.args.values.now c.args.memory.now c.args.fired.now c.place-groups.result g c.requires.plan_bound.1 c.requires.by_index;
       outputs_len = part_long c.args.outputs.now c.place-ports.result (port_count c.args.plan.now) 16 c.requires.outputs_value n c.requires.plan_bound.0;
-      tables = (record { deep = t.deep; cells = omega (arith, c.prepare.auto.next, t.cells); changes = omega (arith, c.prepare.auto.changed, t.changes) }, c.prepare.ensures);
+      tables = (c.requires.tables, c.begin.ensures);
     }
 
 pub returns : goal.returns

@@ -3,13 +3,11 @@ use native.Mathlib.Omega.{arith}
 use Prim.Native.Nat.{ℕ}
 use mathlib.Core.Path.{◌≡◌, refl, ap, ◌∙◌}
 use lib.ListN.{take}
+use Rattle.std.proofs.lemmas.Result.{err_from_is_err_and}
 use Rattle.plan.specs.Layout.{group_count}
 use Rattle.plan_sections.proofs.Parts.{ports_few, groups_few}
-use Rattle.judged.specs.Groups.{fired, unfired}
-use Rattle.judged.specs.Answers.{number_of}
-use Rattle.judged.specs.Judged.{judged}
 use Rattle.judged.proofs.Fired.{sound_sections, judged_fires}
-use Rattle.turn.proofs.Outcomes.{counts_told, turn_refused, turn_clash, turn_ran}
+use Rattle.turn.proofs.Outcomes.{counts_told, cells_few, turn_refused, turn_clash, turn_ran}
 use Rattle.turn.proofs.turn.Goals as goal
 
 pub judge-requires : goal.judge-requires
@@ -17,34 +15,34 @@ judge-requires c =
     let args = c.args in
     let p = args.plan.now in
     let t = counts_told p args.values.now args.memory.now args.outputs.now c.requires.outputs_value in record {
-      plan_value = ((sound_sections p c.requires.plan_value).0, refl);
+      plan_value = (sound_sections p c.requires.plan_value).0;
       values_len = (t.0, t.2);
     }
+
+pub returns-in_err-judge : goal.returns-in_err-judge
+returns-in_err-judge c =
+    let args = c.args in
+    let e = err_from_is_err_and c.from_residual.result c.from_residual.ensures.1 in
+    rw (e.1, e.2) (turn_refused args.plan.now args.mask args.values.now args.memory.now args.outputs.now c.requires.outputs_value c.requires.plan_value c.in_err-judge.field-0.0 c.in_err-judge.ensures)
 
 pub act-requires : goal.act-requires
 act-requires c =
     let args = c.args in
     let p = args.plan.now in
     let t = counts_told p args.values.now args.memory.now args.outputs.now c.requires.outputs_value in
-    let l = c.judge.new.fired in
-    let told : fired (take (group_count p) l) ≡ judged p args.mask args.values.now args.memory.now = rw c.in-Act.is at c.judge.ensures in
     let s = (sound_sections p c.requires.plan_value).0 in record {
-      plan_bound = (ports_few p s, omega (arith, groups_few p s, c.judge.auto.fired));
+      plan_bound = (ports_few p s, omega (arith, groups_few p s));
       outputs_value = refl;
-      tables = c.requires.tables;
-      by_index = judged_fires p args.mask args.values.now args.memory.now l c.requires.plan_value t.0 t.2 told;
+      tables = omega (arith, cells_few p s, t.2);
+      by_index = judged_fires p args.mask args.values.now args.memory.now c.judge.new.fired c.requires.plan_value t.0 t.2 c.in_ok-judge.ensures;
     }
 
-pub returns-then-act : goal.returns-then-act
-returns-then-act c =
+pub returns-then-tables : goal.returns-then-tables
+returns-then-tables c =
     let args = c.args in
-    let if1 = c.if-act in
     let p = args.plan.now in
-    let t = counts_told p args.values.now args.memory.now args.outputs.now c.requires.outputs_value in
-    let l = c.judge.new.fired in
-    let told : fired (take (group_count p) l) ≡ judged p args.mask args.values.now args.memory.now = rw c.in-Act.is at c.judge.ensures in
-    rw (c.refused-then-act.ensures.0, c.refused-then-act.ensures.1) (turn_clash p args.mask args.values.now args.memory.now args.outputs.now c.requires.outputs_value c.requires.plan_value
-    (take (group_count p) l) told c.act.ensures if1.true)
+    turn_clash p args.mask args.values.now args.memory.now args.outputs.now c.requires.outputs_value c.requires.plan_value
+    (take (group_count p) c.judge.new.fired) c.in_ok-judge.ensures c.act.ensures c.if-tables.true
 
 pub commit-requires : goal.commit-requires
 commit-requires c =
@@ -52,24 +50,12 @@ commit-requires c =
     let p = args.plan.now in
     let t = counts_told p args.values.now args.memory.now args.outputs.now c.requires.outputs_value in
     let s = (sound_sections p c.requires.plan_value).0 in
-    (omega (arith, c.act.auto.next, c.requires.tables.cells), omega (arith, c.act.auto.outputs, ports_few p s, t.1))
+    (omega (arith, cells_few p s, t.2), omega (arith, c.act.auto.outputs, ports_few p s, t.1))
 
-pub returns-in-Refuse : goal.returns-in-Refuse
-returns-in-Refuse c =
+pub returns : goal.returns
+returns c =
     let args = c.args in
-    let p = args.plan.now in
-    let told : unfired (number_of c.in-Refuse.answer) ≡ judged p args.mask args.values.now args.memory.now = rw c.in-Refuse.is at c.judge.ensures in
-    rw (c.refused.ensures.0, c.refused.ensures.1) (turn_refused p args.mask args.values.now args.memory.now args.outputs.now c.requires.outputs_value c.requires.plan_value
-    c.in-Refuse.answer told)
-
-pub returns-else-act : goal.returns-else-act
-returns-else-act c =
-    let args = c.args in
-    let if1 = c.if-act in
     let p = args.plan.now in
     let t = counts_told p args.values.now args.memory.now args.outputs.now c.requires.outputs_value in
-    let l = c.judge.new.fired in
-    let told : fired (take (group_count p) l) ≡ judged p args.mask args.values.now args.memory.now = rw c.in-Act.is at c.judge.ensures in
-    let held = c.act.new.outputs in
-    rw c.number.ensures (turn_ran p args.mask args.values.now args.memory.now args.outputs.now c.requires.outputs_value c.requires.plan_value (take (group_count p) l) told c.act.ensures
-    if1.false c.present.ensures (c.commit.ensures.outputs_after ∙ ap (λ (k : ℕ). take k held) t.1) c.commit.ensures.memory_after)
+    turn_ran p args.mask args.values.now args.memory.now args.outputs.now c.requires.outputs_value c.requires.plan_value (take (group_count p) c.judge.new.fired) c.in_ok-judge.ensures c.act.ensures
+    c.if-tables.false c.present.ensures (c.commit.ensures.outputs_after ∙ ap (λ (k : ℕ). take k c.act.new.outputs) t.1) c.commit.ensures.memory_after

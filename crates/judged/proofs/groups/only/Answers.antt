@@ -2,62 +2,25 @@
 use native.Mathlib.Omega.{arith}
 use Prim.Native.Nat.{◌+◌, ◌-◌}
 use mathlib.Core.Path.{◌≡◌, sym, ◌∙◌}
-use Rattle.judged.proofs.Firing.{seen, seen_first, seen_second, seen_none, seen_end, one_found, none_found}
-use Rattle.judged.proofs.groups.only.Goals.{then-rule_matches+else-found, else-rule_matches}
+use Rattle.judged.proofs.Firing.{seen_first, seen_second, seen_none, seen_end, match_end}
+use Rattle.judged.proofs.groups.only.Goals.{then-rule_matches+else-is_some, else-rule_matches}
 use Rattle.judged.proofs.groups.only.Goals as goal
 
-pub loop-i-init : goal.loop-i-init
-unfolding seen
-loop-i-init c =
-    let args = c.args in
-    (omega arith, let e : args.first + 0 ≡ args.first = omega arith in let f : args.n - 0 ≡ args.n = omega arith in rw (e, f))
+pub loop-r-init : goal.loop-r-init
+loop-r-init c = let e : c.args.first + c.args.n - c.args.first ≡ c.args.n = omega arith in rw e
 
-pub rule_matches-requires : goal.rule_matches-requires
-rule_matches-requires c = (c.requires.0, c.requires.1)
+pub returns-then-is_some : goal.returns-then-is_some
+returns-then-is_some c =
+    seen_second c.args.plan.now c.args.mask c.loop-r.r _ c.loop-r-test.true c.loop-r.found (sym c.is_some.ensures ∙ c.if-is_some.true) (sym c.rule_matches.ensures ∙ c.if-rule_matches.true) c.loop-r.invariant
 
-pub returns-then-found : goal.returns-then-found
-returns-then-found c =
-    let args = c.args in
-    let loop = c.loop-i in
-    let loop-test = c.loop-i-test in
-    let if2 = c.if-found in
-    let if1 = c.if-rule_matches in
-    seen_second args.plan.now args.mask args.first args.n loop.i loop-test.true loop.rule if2.true loop.invariant.1
-    (sym c.rule_matches.ensures ∙ if1.true)
-
-pub loop-i-preserved : goal.loop-i-preserved
-loop-i-preserved c =
-    let loop-test = c.loop-i-test in
-    let args = c.args in
-    let loop = c.loop-i in
-    let if1 = c.if-rule_matches in
-    let t = loop-test.true in
-    let m = c.rule_matches.ensures in
-    elim if1.branch [
-      | then-rule_matches+else-found w ↦ (
-        omega (arith, t),
-        rw (w.found-is, w.rule-is) (seen_first args.plan.now args.mask args.first args.n loop.i t loop.rule w.if-found.false loop.invariant.1
-            (sym m ∙ w.if-rule_matches.true)),
-      )
-      | else-rule_matches w ↦ (
-        omega (arith, t),
-        rw (w.found-is, w.rule-is) (seen_none args.plan.now args.mask args.first args.n loop.i t loop.found loop.rule
-            loop.invariant.1 (sym m ∙ w.if-rule_matches.false)),
-      )
+pub loop-r-preserved : goal.loop-r-preserved
+loop-r-preserved c =
+    let loop = c.loop-r in
+    elim c.if-rule_matches.branch [
+      | then-rule_matches+else-is_some w ↦ rw w.found-is (seen_first c.args.plan.now c.args.mask loop.r _ c.loop-r-test.true loop.found (sym w.is_some.ensures ∙ w.if-is_some.false)
+          (sym c.rule_matches.ensures ∙ w.if-rule_matches.true) loop.invariant)
+      | else-rule_matches w ↦ rw w.found-is (seen_none c.args.plan.now c.args.mask loop.r _ c.loop-r-test.true loop.found (sym c.rule_matches.ensures ∙ w.if-rule_matches.false) loop.invariant)
     ]
 
-pub returns-then-found-2 : goal.returns-then-found-2
-returns-then-found-2 c =
-    let loop = c.loop-i in
-    let if3 = c.if-found-2 in
-    let args = c.args in
-    let loop-test = c.loop-i-test in
-    one_found loop.rule if3.true (seen_end args.plan.now args.mask args.first args.n loop.i loop.found loop.rule loop-test.false loop.invariant.1)
-
-pub returns-else-found-2 : goal.returns-else-found-2
-returns-else-found-2 c =
-    let loop = c.loop-i in
-    let if3 = c.if-found-2 in
-    let args = c.args in
-    let loop-test = c.loop-i-test in
-    none_found loop.rule if3.false (seen_end args.plan.now args.mask args.first args.n loop.i loop.found loop.rule loop-test.false loop.invariant.1)
+pub returns : goal.returns
+returns c = c.ok_or.ensures.value ∙ seen_end c.loop-r.found c.loop-r.invariant (match_end c.args.plan.now c.args.mask c.loop-r.r _ c.loop-r-test.false)

@@ -9,4 +9,4 @@ memories_fit-requires c = rw c.memory_count.ensures (omega (arith, c.requires.1)
 pub returns : goal.returns
 unfolding fitting
 returns c =
-    simp (c.within.ensures, c.wide.ensures, c.port_count-n.ensures, c.inputs_fit.ensures, c.memories_fit.ensures, c.memory_count.ensures)
+    simp (c.within.ensures, c.from.ensures, c.port_count-n.ensures, c.inputs_fit.ensures, c.memories_fit.ensures, c.memory_count.ensures)

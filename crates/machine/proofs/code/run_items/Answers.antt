@@ -3,123 +3,75 @@ use native.Mathlib.Omega.{arith}
 use Prim.Native.Nat.{◌+◌, ◌-◌, ◌*◌, ◌≤◌, ◌<◌}
 use mathlib.Core.Path.{◌≡◌, refl, sym, ◌∙◌, subst}
 use mathlib.Core.List.{[]}
-use lib.ListN.{length, take, drop}
+use lib.ListN.{length}
 use Rattle.plan.specs.declared.Item.{Item}
-use Rattle.plan.specs.Items.{decode_all}
 use Rattle.plan.specs.Waits.{top}
 use Rattle.plan.specs.Items.{item_at}
 use Rattle.soundness.proofs.Turns.{rest}
 use Rattle.item_steps.specs.Machine.{state, exec1}
 use Rattle.item_steps.specs.Ready.{Ready}
-use Rattle.machine.proofs.Turns.{safe_any, exec_turn, exec_done, turn_found, left_state, left_turn, ready_of, not_bad, ran_of}
+use Rattle.machine.specs.Safety.{items_from}
+use Rattle.machine.proofs.Turns.{safe_any, exec_turn, exec_done, turn_found, turn_ready, left_state, left_turn, not_bad, ran_of}
 use Rattle.machine.proofs.code.run_items.Goals as goal
 
-pub overflow_mul-end : goal.overflow_mul-end
-overflow_mul-end c = omega (arith, c.requires.safe_items.0)
-
-pub overflow_add-end : goal.overflow_add-end
-overflow_add-end c = omega (arith, c.requires.safe_items.0)
-
-pub loop-at-init : goal.loop-at-init
+pub loop-i-init : goal.loop-i-init
 unfolding top
-loop-at-init c =
+loop-i-init c =
     let args = c.args in
-    let e : args.items - 0 ≡ args.items = omega arith in (
-      0,
-      omega arith,
-      omega arith,
-      omega arith,
-      refl,
-      c.requires.tables.0.deep,
-      refl,
-      refl,
-      refl,
-      λ present taken f g qs b. (
+    let e : args.items - 0 ≡ args.items = omega arith in
+    let f : args.from + 4 * 0 ≡ args.from = omega arith in
+    record {
+      few = omega arith;
+      run = λ present taken safe g qs b. (
         state [] args.slots.now args.outputs.now qs,
-        record
-            { waits = refl; slot = refl; output = refl; write = b },
-        rw e
-            (safe_any args.plan.now present taken (decode_all (take (4 * args.items) (drop args.from args.plan.now))) [] args.slots.now args.outputs.now [] qs f),
-        rw e,
-      ),
-    )
-
-pub fetch_sound-requires : goal.fetch_sound-requires
-fetch_sound-requires c =
-    let loop = c.loop-at in
-    let args = c.args in
-    let loop-test = c.loop-at-test in
-    let k : loop.invariant.0 < args.items = omega (arith, loop.invariant.2, loop-test.true) in
-    let z : loop.at + 4 * (args.items - loop.invariant.0) ≤ length args.plan.now = omega (arith, loop.invariant.2, c.requires.safe_items.0) in
-    let u = loop.invariant.9 c.requires.safe_items.1 c.requires.safe_items.2 c.requires.safe_items.4 c.requires.safe_items.3 c.requires.tables.1.0 c.requires.tables.1.1 in (
-      omega (arith, loop.invariant.2, c.requires.safe_items.0),
-      not_bad (ready_of args.plan.now c.requires.safe_items.1 c.requires.safe_items.2 args.values.now args.memory.now
-          (rest args.plan.now (loop.at + 4) args.items (loop.invariant.0 + 1)) (item_at args.plan.now loop.at) loop.stack loop.n loop.slots loop.outputs
-          loop.invariant.3 u.1 (turn_found args.plan.now c.requires.safe_items.1 c.requires.safe_items.2 args.values.now args.memory.now c.requires.safe_items.3 loop.at args.items loop.invariant.0 k z
-          u.0 u.2)),
-    )
-
-pub step-left-requires : goal.step-left-requires
-step-left-requires c =
-    let loop = c.loop-at in
-    let args = c.args in
-    let loop-test = c.loop-at-test in
-    let k : loop.invariant.0 < args.items = omega (arith, loop.invariant.2, loop-test.true) in
-    let z : loop.at + 4 * (args.items - loop.invariant.0) ≤ length args.plan.now = omega (arith, loop.invariant.2, c.requires.safe_items.0) in
-    let u = loop.invariant.9 c.requires.safe_items.1 c.requires.safe_items.2 c.requires.safe_items.4 c.requires.safe_items.3 c.requires.tables.1.0 c.requires.tables.1.1 in record {
-      n_le_waiting = (loop.invariant.3, record { deep = loop.invariant.5; cells = omega (arith, loop.invariant.7, c.requires.tables.0.cells); changes = omega (arith, loop.invariant.8, c.requires.tables.0.changes) });
-      ready = subst
-          (λ (j : Item). Ready args.values.now args.memory.now loop.stack loop.n loop.slots loop.outputs j) (sym c.fetch_sound.ensures)
-          (ready_of args.plan.now c.requires.safe_items.1 c.requires.safe_items.2 args.values.now args.memory.now (rest args.plan.now (loop.at + 4) args.items (loop.invariant.0 + 1))
-          (item_at args.plan.now loop.at) loop.stack loop.n loop.slots loop.outputs loop.invariant.3 u.1
-          (turn_found args.plan.now c.requires.safe_items.1 c.requires.safe_items.2 args.values.now args.memory.now c.requires.safe_items.3 loop.at args.items loop.invariant.0 k z u.0 u.2));
+        record { waits = refl; slot = refl; output = refl; write = b },
+        rw (e, f) (safe_any args.plan.now present taken (items_from args.plan.now args.from args.items) [] args.slots.now args.outputs.now [] qs safe),
+        rw (e, f),
+      );
     }
 
-pub overflow_add-at : goal.overflow_add-at
-overflow_add-at c =
-    let loop = c.loop-at in
-    let loop-test = c.loop-at-test in
-    omega (arith, loop.invariant.2, loop-test.true, c.requires.safe_items.0)
-
-pub loop-at-smaller : goal.loop-at-smaller
-loop-at-smaller c =
-    let loop = c.loop-at in
-    let loop-test = c.loop-at-test in
-    omega (arith, loop.invariant.2, loop-test.true)
-
-pub loop-at-preserved : goal.loop-at-preserved
-loop-at-preserved c =
-    let loop = c.loop-at in
+pub fetch_sound-item-requires : goal.fetch_sound-item-requires
+fetch_sound-item-requires c =
     let args = c.args in
-    let loop-test = c.loop-at-test in
-    let k : loop.invariant.0 < args.items = omega (arith, loop.invariant.2, loop-test.true) in
-    let z : loop.at + 4 * (args.items - loop.invariant.0) ≤ length args.plan.now = omega (arith, loop.invariant.2, c.requires.safe_items.0) in (
-      loop.invariant.0 + 1,
-      omega (arith, k),
-      omega (arith, loop.invariant.2),
-      c.step-left.ensures.waits_le_waiting,
-      c.step-left.auto.outputs ∙ loop.invariant.4,
-      c.step-left.auto.stack ∙ loop.invariant.5,
-      c.step-left.auto.slots ∙ loop.invariant.6,
-      c.step-left.auto.next ∙ loop.invariant.7,
-      c.step-left.auto.changed ∙ loop.invariant.8,
-      λ present taken f g qs b. let u =
-          loop.invariant.9 present taken f g qs b in (
-            exec1 args.values.now args.memory.now (item_at args.plan.now loop.at) u.0,
-            left_turn args.values.now
-                c.fetch_sound.ensures (left_state u.1) (c.step-left.ensures.fact u.0.writes u.1.write),
-            (turn_found args.plan.now present taken args.values.now args.memory.now g
-                loop.at args.items loop.invariant.0 k z u.0 u.2).safe,
-            sym (exec_turn args.values.now args.memory.now args.plan.now loop.at args.items
-                loop.invariant.0 u.0 k z) ∙ u.3,
-          ),
+    let loop = c.loop-i in
+    let safe = c.requires.safe_items in
+    let u = loop.invariant.run safe.1 safe.2 safe.4 safe.3 c.requires.tables.1.0 c.requires.tables.1.1 in (
+      omega (arith, safe.0),
+      not_bad (turn_ready args.plan.now safe.1 safe.2 args.values.now args.memory.now safe.3 (args.from + 4 * loop.i) args.items loop.i loop.n loop.slots loop.outputs
+          loop.invariant.few (omega arith) (omega (arith, safe.0)) u.1 u.2),
     )
+
+pub step-n-requires-clause-ready : goal.step-n-requires-clause-ready
+step-n-requires-clause-ready c =
+    let args = c.args in
+    let loop = c.loop-i in
+    let safe = c.requires.safe_items in
+    let u = loop.invariant.run safe.1 safe.2 safe.4 safe.3 c.requires.tables.1.0 c.requires.tables.1.1 in
+    rw c.fetch_sound-item.ensures (turn_ready args.plan.now safe.1 safe.2 args.values.now args.memory.now safe.3 (args.from + 4 * loop.i) args.items loop.i loop.n loop.slots loop.outputs
+        loop.invariant.few (omega arith) (omega (arith, safe.0)) u.1 u.2)
+
+pub loop-i-preserved : goal.loop-i-preserved
+loop-i-preserved c =
+    let args = c.args in
+    let loop = c.loop-i in
+    let at = args.from + 4 * loop.i in
+    let k : loop.i < args.items = omega arith in
+    let z : at + 4 * (args.items - loop.i) ≤ length args.plan.now = omega (arith, c.requires.safe_items.0) in
+    let e : args.from + 4 * (loop.i + 1) ≡ at + 4 = omega arith in
+    record {
+      few = c.step-n.ensures.waits_le_waiting;
+      run = λ present taken safe g qs b. let u = loop.invariant.run present taken safe g qs b in (
+        exec1 args.values.now args.memory.now (item_at args.plan.now at) u.0,
+        left_turn args.values.now c.fetch_sound-item.ensures (left_state u.1) (c.step-n.ensures.fact u.0.writes u.1.write),
+        rw e (turn_found args.plan.now present taken args.values.now args.memory.now g at args.items loop.i k z u.0 u.2).safe,
+        rw e (sym (exec_turn args.values.now args.memory.now args.plan.now at args.items loop.i u.0 k z) ∙ u.3),
+      );
+    }
 
 pub returns : goal.returns
 returns c =
-    let loop = c.loop-at in
     let args = c.args in
-    let loop-test = c.loop-at-test in
-    λ qs b. let u = loop.invariant.9 c.requires.safe_items.1 c.requires.safe_items.2 c.requires.safe_items.4 c.requires.safe_items.3 qs b in
-    let j : args.items ≤ loop.invariant.0 = omega (arith, loop.invariant.2, loop-test.false) in
-    ran_of u.1 (sym (exec_done args.values.now args.memory.now args.plan.now loop.at args.items loop.invariant.0 u.0 j) ∙ u.3)
+    let loop = c.loop-i in
+    let safe = c.requires.safe_items in
+    λ qs b. let u = loop.invariant.run safe.1 safe.2 safe.4 safe.3 qs b in
+    ran_of u.1 (sym (exec_done args.values.now args.memory.now args.plan.now (args.from + 4 * loop.i) args.items loop.i u.0 (omega arith)) ∙ u.3)
