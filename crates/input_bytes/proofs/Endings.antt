@@ -1,9 +1,9 @@
 -- The end of the input, as the code has it and as the definitions do. Assumes nothing.
-use mathlib.Core.Path.{◌≡◌, refl, sym, ap, ap₂, ◌∙◌}
+use mathlib.Core.Path.{◌≡◌, refl, sym, ap, ◌∙◌}
 use mathlib.Core.Bool.{Bool, true, false}
 use mathlib.Core.Logic.{◌⊎◌, inl, inr}
 use mathlib.Core.List.{List, [], ◌∷◌}
-use Prim.Native.Nat.{ℕ, ◌-◌, min}
+use Prim.Native.Nat.{ℕ, min}
 use native.Mathlib.Omega.{arith}
 use borrow.Author.Tests.{leb-true, leb-false}
 use lib.Dec.{leb}
@@ -12,8 +12,6 @@ use lib.Seq.{take_all}
 use Rattle.language.specs.Worked.{line, is_bad}
 use Rattle.figures.specs.declared.Stage.{Stage}
 use Rattle.figures.specs.declared.Stage.TheVariants.{ActorCount, Actor, BindingsCount, Bindings, CycleCount, Line, Through, Wrong, Stopped}
-use Rattle.figures.specs.declared.State.{State}
-use Rattle.input_bytes.specs.Texts.{kept_of, actor_byte, bindings_byte}
 use Rattle.input_bytes.specs.Lines.{cells_of}
 use Rattle.input_bytes.specs.Bytes.{Machine, ended_at, ended_of}
 

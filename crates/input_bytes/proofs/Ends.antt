@@ -3,10 +3,9 @@ use mathlib.Core.Path.{◌≡◌, refl, sym, ap, ap₂, ◌∙◌, subst}
 use mathlib.Core.Bool.{true, false}
 use Rattle.std.specs.Prelude.{Some, None}
 use mathlib.Core.List.{List, ◌++◌}
-use Prim.Native.Nat.{ℕ, ◌+◌, ◌-◌, ◌≤◌, ◌<◌}
+use Prim.Native.Nat.{ℕ, ◌+◌, ◌-◌, ◌≤◌}
 use native.Mathlib.Omega.{arith}
-use borrow.Author.Tests.{lt-ltb, le-ltb, eq-eqb, ne_eqb}
-use lib.Dec.{ltb}
+use borrow.Author.Tests.{eq-eqb, ne_eqb}
 use lib.ListN.{length, take, drop}
 use lib.Seq.{sets}
 use Rattle.language.specs.Meaning.{Outcome}
@@ -39,7 +38,7 @@ left_as {x} {y} {after} {old} {out} {at} l e = subst (λ (z : Lined). Left z old
 
 -- ---- the cycle
 
-module _ (s : State) (mask : ℕ) (p values outputs memory : List ℕ) where
+module _ (mask : ℕ) (p values outputs memory : List ℕ) where
   pub ran_as : (n m : ℕ) (r : Done) (os ms : List ℕ) → n ≡ ports_of p → m ≡ cells_of p → outcome r.answer r.present os ms ≡ cycle_of p mask (take n values) (take m memory) (take n outputs)
       → Ran p (done_of p mask values outputs memory) outputs memory r (os ++ drop n outputs) (ms ++ drop m memory)
   unfolding done_of outputs_after memory_after
@@ -54,11 +53,11 @@ module _ (s : State) (mask : ℕ) (p values outputs memory : List ℕ) where
       d : outcome r.answer r.present os ms ≡ done_of p mask values outputs memory
       d = e ∙ ap₂ (λ (i j : ℕ). cycle_of p mask (take i values) (take j memory) (take i outputs)) en em
 
-  pub turned_as : (r : Done) (os ms out new : List ℕ) (next left : ℕ) → Ran p (done_of p mask values outputs memory) outputs memory r os ms
+  pub turned_as : (s : State) (r : Done) (os ms out new : List ℕ) (next left : ℕ) → Ran p (done_of p mask values outputs memory) outputs memory r os ms
       → Wrote out s.at (shown_of p r.answer r.present os) 378 next new → left ≡ s.left - 1
       → Left (turned_of s mask p values outputs memory) out s.at (standing (record { stage = Line; number = None; left = left; port = 0; mask = mask; actor = s.actor; bindings = s.bindings; plan = s.plan; at = next }) values os ms) new
   unfolding turned_of
-  turned_as r os ms out new next left x w e =
+  turned_as s r os ms out new next left x w e =
       record {
         stands = ap₂ (λ (l k : ℕ). record { stage = Line; number = None; left = l; port = 0; mask = mask; actor = s.actor; bindings = s.bindings; plan = s.plan; at = k }) e q;
         held = refl;

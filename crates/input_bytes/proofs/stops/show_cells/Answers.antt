@@ -1,10 +1,6 @@
 -- `show_cells` meets its contract. Assumes nothing.
 use native.Mathlib.Omega.{arith}
-use mathlib.Core.Path.{◌≡◌, sym, ap, ◌∙◌}
-use mathlib.Core.List.{List, [], ◌∷◌}
-use Prim.Native.Nat.{ℕ}
-use lib.ListN.{length}
-use Rattle.std.proofs.Common.{rules}
+use mathlib.Core.Path.{sym, ap, ◌∙◌}
 use Rattle.language.specs.Worked.{line}
 use Rattle.figures.proofs.Bytes.{both, renamed, line_none, line_is}
 use Rattle.input_bytes.proofs.stops.show_cells.Goals as goal
