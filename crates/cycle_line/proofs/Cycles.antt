@@ -9,20 +9,10 @@ use lib.Dec.{ltb}
 use lib.ListN.{length, get_or, set, length-append}
 use lib.Seq.{sets}
 use Rattle.language.specs.Worked.{decimal, line}
-use Rattle.plan.specs.Layout.{port_at, port_count}
+use Rattle.plan.specs.Layout.{port_at}
 use Rattle.figures.specs.Written.{Wrote, blanked}
 use Rattle.cycle_line.specs.Shown.{ports_of, output_of, outputs_from, shown_of}
 use Rattle.figures.proofs.Bytes.{line_is, named, nothing, sets_append, Rest}
-
--- ---- ports
-
-pub ports_few : (p : List ℕ) (n : ℕ) → n ≡ port_count p → n < 16 → n ≡ ports_of p
-unfolding ports_of
-ports_few p n e h = omega arith
-
-pub ports_most : (p : List ℕ) (n : ℕ) → n ≡ port_count p → 16 ≤ n → 16 ≡ ports_of p
-unfolding ports_of
-ports_most p n e h = omega arith
 
 -- ---- outputs
 

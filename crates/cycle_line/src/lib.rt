@@ -8,19 +8,19 @@ ghost use Rattle.language.specs.Limits.{limits};
 ghost use Rattle.figures.specs.Written.{Wrote, blanked, number_bytes};
 ghost use Rattle.cycle_line.specs.Shown.{ports_of, output_of, outputs_from, shown_of, line_bytes, outputs_bytes};
 
-use figures::{next_number, number, put, wide};
-use plan::{place, port_at, port_count};
+use figures::{next_number, number, put};
+use plan::{port_at, port_count};
 
 const OUTPUT: u32 = plan::OUTPUT;
 
 const PORTS: u32 = language::Plan::PORTS;
 
 // The ports of the plan, as many as the table has room for.
+#[tactic(auto, unfolding(crate::specs::Shown::ports_of))]
 pub fn ports(plan: &[u32]) -> u32
     ensures { (result ≡ ports_of plan.now) × (result ≤ limits.ports) }
 {
-    let n = port_count(plan);
-    if n < PORTS { n } else { PORTS }
+    port_count(plan).min(PORTS)
 }
 
 // A port's value after a blank, if it is an output.
@@ -39,12 +39,9 @@ fn show_outputs(plan: &[u32], outputs: &[u64], out: &mut [u8], at: usize) -> usi
     requires { (limits.ports ≤ length outputs.now) × (at + outputs_bytes ≤ length out.old) }
     ensures { Wrote out.old at (blanked (outputs_from plan.now outputs.now (ports_of plan.now) 0)) outputs_bytes result out.new }
 {
-    let n = ports(plan);
     let mut k = at;
-    let mut i = 0;
-    while i < n {
-        k = show_output(port_at(plan, i), outputs[place(i)], out, k);
-        i += 1;
+    for i in 0..ports(plan) {
+        k = show_output(port_at(plan, i), outputs[i as usize], out, k);
     }
     k
 }
@@ -62,11 +59,11 @@ pub fn show(
     requires { (limits.ports ≤ length outputs.now) × (at + line_bytes ≤ length out.old) }
     ensures { Wrote out.old at (shown_of plan.now answer present outputs.now) line_bytes result out.new }
 {
-    let k = number(out, at, wide(answer));
+    let k = number(out, at, u64::from(answer));
     if answer != 0 {
         return put(out, k, 10);
     }
-    let m = next_number(out, k, wide(present));
+    let m = next_number(out, k, u64::from(present));
     let e = show_outputs(plan, outputs, out, m);
     put(out, e, 10)
 }

@@ -4,8 +4,10 @@ use mathlib.Core.List.{List, [], ◌∷◌, ◌++◌, append_assoc}
 use Prim.Native.Nat.{ℕ, suc, ◌+◌, ◌*◌, ◌≤◌, ◌<◌}
 use native.Mathlib.Omega.{arith}
 use native.Mathlib.Numerals.{add-one}
-use lib.ListN.{length, get_or, take, drop, set, length-append, length-take, length-drop, drop_of_length-le}
-use lib.Seq.{sets, take-suc, drop-cons, length-sets}
+use lib.ListN.{length, get_or, take, drop, set, length-append, length-drop, drop_of_length-le}
+use lib.Seq.{sets, drop-cons, drop-drop, length-sets}
+use borrow.Rule.Slice.PartMut.{put_mid}
+use Rattle.std.proofs.lemmas.List.Edits.{sets-eq}
 use Rattle.language.specs.Words.{bytes}
 use Rattle.language.specs.Worked.{decimal, line, is_bad}
 use Rattle.figures.specs.Written.{Wrote, blanked}
@@ -14,11 +16,11 @@ pub sets_append : (l : List ℕ) (i j : ℕ) (a b : List ℕ) → j ≡ i + leng
 sets_append l i j [] b e = ap (λ (k : ℕ). sets l k b) (omega arith)
 sets_append l i j (x ∷ a) b e = sets_append (set l i x) (suc i) j a b (omega arith)
 
--- a turn of the loop that copies
-pub sets_next : (l t : List ℕ) (at i : ℕ) → i < length t → set (sets l at (take i t)) (at + i) (get_or t i 0) ≡ sets l at (take (i + 1) t)
-sets_next l t at i h =
-    sym (sets_append l at (at + i) (take i t) (get_or t i 0 ∷ []) (let e = length-take i t in omega arith))
-    ∙ ap (sets l at) (sym (take-suc t i 0 h) ∙ ap (λ (k : ℕ). take k t) (sym (add-one i)))
+-- a part of the table that is overwritten by bytes of its length
+pub written : (l t y : List ℕ) (at k : ℕ) → y ≡ t → k ≡ length t → at + length t ≤ length l → put_mid at k l y ≡ sets l at t
+written l t y at k e f h =
+    ap₂ (λ (x : List ℕ) (n : ℕ). put_mid at n l x) e f ∙ ap (λ (d : List ℕ). take at l ++ (t ++ d)) (drop-drop (length t) at l)
+    ∙ sym (append_assoc (take at l) t (drop (at + length t) l)) ∙ sym (sets-eq t l at h)
 
 -- what is written after what was written
 pub both : {old mid new : List ℕ} {at next end m n : ℕ} {a b : List ℕ} → Wrote old at a m next mid → Wrote mid next b n end new → Wrote old at (a ++ b) (m + n) end new
@@ -58,18 +60,9 @@ unfolding line blanked
 line_is n [] = refl
 line_is n (m ∷ l) = ap (λ (r : List ℕ). decimal n ++ (32 ∷ r)) (line_is m l ∙ sym (append_assoc (decimal m) (blanked l) (10 ∷ [])))
 
-bad_is : is_bad ≡ 98 ∷ 97 ∷ 100 ∷ 10 ∷ []
+pub bad_is : 98 ∷ 97 ∷ 100 ∷ 10 ∷ [] ≡ is_bad
 unfolding is_bad bytes
 bad_is = refl
-
-pub bad_written : (l : List ℕ) (at : ℕ) → Wrote l at is_bad 4 (at + 4) (set (set (set (set l at 98) (at + 1) 97) (at + 2) 100) (at + 3) 10)
-bad_written l at =
-    named {m = 4} (sym bad_is) (omega arith)
-    record {
-      place = refl;
-      bytes = let e : at + 1 ≡ suc at = omega arith in let f : at + 2 ≡ suc (suc at) = omega arith in let g : at + 3 ≡ suc (suc (suc at)) = omega arith in cc;
-      short = omega arith;
-    }
 
 -- ---- a loop that writes: once the rest is written too, all is
 

@@ -1,6 +1,8 @@
 -- What a byte leaves at each stage. Assumes nothing.
 use mathlib.Core.Path.{◌≡◌, refl, sym, ap, ap₂, ◌∙◌, subst}
 use mathlib.Core.Bool.{Bool, true, false}
+use mathlib.Core.Logic.{◌⊎◌, inl, inr}
+use Rattle.std.specs.Prelude.{Option, Some, None}
 use mathlib.Core.List.{List, []}
 use Prim.Native.Nat.{ℕ}
 use native.Mathlib.Omega.{arith}
@@ -8,12 +10,14 @@ use lib.Dec.{eqb}
 use lib.ListN.{length, set}
 use lib.Seq.{sets}
 use Rattle.figures.specs.declared.Stage.{Stage}
-use Rattle.figures.specs.declared.Stage.TheVariants.{ActorCount, Actor, BindingsCount, Bindings, CycleCount, Line}
+use Rattle.figures.specs.declared.Stage.TheVariants.{ActorCount, Actor, BindingsCount, Bindings, CycleCount, Line, Through, Wrong, Stopped}
 use Rattle.figures.specs.declared.State.{State}
 use Rattle.figures.specs.States.{start_of, wrong_of, takes_of, longer_of}
+use Rattle.input_bytes.specs.declared.tables.Tables.{Tables}
+use Rattle.input_bytes.specs.Tables.{SameTexts}
 use Rattle.input_bytes.specs.Texts.{count_byte, actor_byte, bindings_byte}
 use Rattle.input_bytes.specs.Lines.{Lined, Left, standing, line_byte}
-use Rattle.input_bytes.specs.Bytes.{Machine, machine, lined, stated, moved_at, moved_of, TablesStand}
+use Rattle.input_bytes.specs.Bytes.{Machine, machine, machine_of, lined, stated, moved_at, moved_of, TablesStand}
 
 abbrev pub place_of : State → ℕ
 place_of s = s.at
@@ -37,13 +41,13 @@ module _ (s : State) (a b p v o m : List ℕ) (c : ℕ) where
 
   count_at_law : (g : Stage) → (count_byte g s c).at ≡ s.at
   unfolding count_byte longer_of
-  count_at_law g = go (takes_of s c) s.begun (eqb c 10)
+  count_at_law g = go (takes_of s c) s.number (eqb c 10)
     where
-      go : (x y z : Bool) → place_of (elim x [ true ↦ longer_of s c | false ↦ elim y [ true ↦ elim z [ true ↦ start_of s g s.number | false ↦ wrong_of s ] | false ↦ wrong_of s ] ]) ≡ s.at
+      go : (x : Bool) (y : Option ℕ) (z : Bool) → place_of (elim x [ true ↦ longer_of s c | false ↦ elim y [ Some n ↦ elim z [ true ↦ start_of s g n | false ↦ wrong_of s ] | None ↦ wrong_of s ] ]) ≡ s.at
       go true y z = refl
-      go false true true = refl
-      go false true false = refl
-      go false false z = refl
+      go false (Some n) true = refl
+      go false (Some n) false = refl
+      go false None z = refl
 
   counts : (g h : Stage) (r : State) (out : List ℕ) → moved_at g (machine s a b p v o m []) c ≡ stated (machine s a b p v o m []) (count_byte h s c) → s.stage ≡ g → r ≡ count_byte h s c → TablesStand (moved_of (machine s a b p v o m []) c) out s.at 378 (machine r a b p v o m []) out
   counts g h r out q e f =
@@ -86,5 +90,18 @@ module _ (s : State) (a b p v o m : List ℕ) (c : ℕ) where
         short = l.short;
       }
 
-  pub rests : (g : Stage) (out : List ℕ) → s.stage ≡ g → moved_at g (machine s a b p v o m []) c ≡ machine s a b p v o m [] → TablesStand (moved_of (machine s a b p v o m []) c) out s.at 378 (machine s a b p v o m []) out
+  rests : (g : Stage) (out : List ℕ) → s.stage ≡ g → moved_at g (machine s a b p v o m []) c ≡ machine s a b p v o m [] → TablesStand (moved_of (machine s a b p v o m []) c) out s.at 378 (machine s a b p v o m []) out
   rests g out e q = quiet (moved_of (machine s a b p v o m []) c) s a b out (sym q ∙ at_stage g e) refl
+
+  -- no more is read
+  pub read_no_more : (out : List ℕ) → (s.stage ≡ Through) ⊎ ((s.stage ≡ Wrong) ⊎ ((n : ℕ) × (p : ℕ) × (s.stage ≡ Stopped n p))) → TablesStand (moved_of (machine s a b p v o m []) c) out s.at 378 (machine s a b p v o m []) out
+  unfolding moved_at
+  read_no_more out (inl e) = rests Through out e refl
+  read_no_more out (inr (inl e)) = rests Wrong out e refl
+  read_no_more out (inr (inr (x, y, e))) = rests (Stopped x y) out e refl
+
+-- the texts and the plan are as they were
+pub kept : (r : State) (old new : Tables) → SameTexts old new → machine r old.actor old.bindings old.plan new.values new.outputs new.memory [] ≡ machine_of r new
+kept r old new e =
+    ap₂ (λ (x y : List ℕ). machine r x y old.plan new.values new.outputs new.memory []) (sym e.actor) (sym e.bindings)
+    ∙ ap (λ (x : List ℕ). machine r new.actor new.bindings x new.values new.outputs new.memory []) (sym e.plan)

@@ -1,21 +1,22 @@
 -- What the end of a number in a cycle's line does, case by case. Assumes nothing.
 use mathlib.Core.Path.{◌≡◌, refl, sym, ap, ap₂, ◌∙◌, subst}
 use mathlib.Core.Bool.{true, false}
+use Rattle.std.specs.Prelude.{Some, None}
 use mathlib.Core.List.{List, ◌++◌}
-use Prim.Native.Nat.{ℕ, ◌+◌, ◌-◌, ◌≤◌, ◌<◌}
+use Prim.Native.Nat.{ℕ, ◌+◌, ◌-◌, ◌≤◌}
 use native.Mathlib.Omega.{arith}
-use borrow.Author.Tests.{lt-ltb, le-ltb, eq-eqb, ne_eqb}
-use lib.Dec.{ltb}
+use borrow.Author.Tests.{eq-eqb, ne_eqb}
 use lib.ListN.{length, take, drop}
 use lib.Seq.{sets}
 use Rattle.language.specs.Meaning.{Outcome}
 use Rattle.turn.specs.Cycle.{cycle_of}
 use Rattle.turn.specs.Turn.{outcome}
+use Rattle.turn.specs.declared.Done.{Done}
 use Rattle.figures.specs.declared.Stage.TheVariants.{Line}
 use Rattle.figures.specs.declared.State.{State}
 use Rattle.figures.specs.States.{wrong_of, port_of, line_takes, longer_of}
 use Rattle.figures.specs.Written.{Wrote}
-use Rattle.input_bytes.specs.Lines.{cells_of, next_input, Lined, Left, mask_after, values_after, done_of, outputs_after, memory_after, turned_of, standing, number_ends, line_byte}
+use Rattle.input_bytes.specs.Lines.{cells_of, next_input, Lined, Left, mask_after, values_after, done_of, outputs_after, memory_after, Ran, turned_of, standing, number_ends, line_byte}
 use Rattle.cycle_line.specs.Shown.{ports_of, shown_of}
 
 -- ---- what is left where nothing is run
@@ -37,87 +38,80 @@ left_as {x} {y} {after} {old} {out} {at} l e = subst (λ (z : Lined). Left z old
 
 -- ---- the cycle
 
-module _ (s : State) (mask : ℕ) (p values outputs memory : List ℕ) where
-  done_is : (n m answer count : ℕ) (os ms : List ℕ) → n ≡ ports_of p → m ≡ cells_of p → outcome answer count os ms ≡ cycle_of p mask (take n values) (take m memory) (take n outputs) → outcome answer count os ms ≡ done_of p mask values outputs memory
-  unfolding done_of
-  done_is n m answer count os ms en em e = e ∙ ap₂ (λ (i j : ℕ). cycle_of p mask (take i values) (take j memory) (take i outputs)) en em
+module _ (mask : ℕ) (p values outputs memory : List ℕ) where
+  pub ran_as : (n m : ℕ) (r : Done) (os ms : List ℕ) → n ≡ ports_of p → m ≡ cells_of p → outcome r.answer r.present os ms ≡ cycle_of p mask (take n values) (take m memory) (take n outputs)
+      → Ran p (done_of p mask values outputs memory) outputs memory r (os ++ drop n outputs) (ms ++ drop m memory)
+  unfolding done_of outputs_after memory_after
+  ran_as n m r os ms en em e =
+      record {
+        answer = ap (λ (y : Outcome). y.answer) d;
+        count = ap (λ (y : Outcome). y.count) d;
+        slots = ap₂ (λ (y : Outcome) (k : ℕ). y.outputs ++ drop k outputs) d en;
+        cells = ap₂ (λ (y : Outcome) (k : ℕ). y.memory ++ drop k memory) d em;
+      }
+    where
+      d : outcome r.answer r.present os ms ≡ done_of p mask values outputs memory
+      d = e ∙ ap₂ (λ (i j : ℕ). cycle_of p mask (take i values) (take j memory) (take i outputs)) en em
 
-  module _ (n m answer count : ℕ) (os ms : List ℕ) (en : n ≡ ports_of p) (em : m ≡ cells_of p) (d : outcome answer count os ms ≡ done_of p mask values outputs memory) where
-    slots_are : os ++ drop n outputs ≡ outputs_after p (done_of p mask values outputs memory) outputs
-    unfolding outputs_after
-    slots_are = ap₂ (λ (y : Outcome) (k : ℕ). y.outputs ++ drop k outputs) d en
+  pub turned_as : (s : State) (r : Done) (os ms out new : List ℕ) (next left : ℕ) → Ran p (done_of p mask values outputs memory) outputs memory r os ms
+      → Wrote out s.at (shown_of p r.answer r.present os) 378 next new → left ≡ s.left - 1
+      → Left (turned_of s mask p values outputs memory) out s.at (standing (record { stage = Line; number = None; left = left; port = 0; mask = mask; actor = s.actor; bindings = s.bindings; plan = s.plan; at = next }) values os ms) new
+  unfolding turned_of
+  turned_as s r os ms out new next left x w e =
+      record {
+        stands = ap₂ (λ (l k : ℕ). record { stage = Line; number = None; left = l; port = 0; mask = mask; actor = s.actor; bindings = s.bindings; plan = s.plan; at = k }) e q;
+        held = refl;
+        slots = x.slots;
+        cells = x.cells;
+        bytes = w.bytes ∙ ap (sets out s.at) shown_is;
+        place = q;
+        short = subst (λ (l : List ℕ). length l ≤ 378) shown_is w.short;
+      }
+    where
+      shown_is : shown_of p r.answer r.present os ≡ shown_of p (done_of p mask values outputs memory).answer (done_of p mask values outputs memory).count (outputs_after p (done_of p mask values outputs memory) outputs)
+      shown_is = ap₂ (λ (a k : ℕ). shown_of p a k os) x.answer x.count ∙ ap (shown_of p (done_of p mask values outputs memory).answer (done_of p mask values outputs memory).count) x.slots
 
-    cells_are : ms ++ drop m memory ≡ memory_after p (done_of p mask values outputs memory) memory
-    unfolding memory_after
-    cells_are = ap₂ (λ (y : Outcome) (k : ℕ). y.memory ++ drop k memory) d em
+      q : next ≡ s.at + length (shown_of p (done_of p mask values outputs memory).answer (done_of p mask values outputs memory).count (outputs_after p (done_of p mask values outputs memory) outputs))
+      q = w.place ∙ ap (λ (l : List ℕ). s.at + length l) shown_is
 
-    shown_is : shown_of p answer count (os ++ drop n outputs) ≡ shown_of p (done_of p mask values outputs memory).answer (done_of p mask values outputs memory).count (outputs_after p (done_of p mask values outputs memory) outputs)
-    shown_is =
-        ap (λ (y : Outcome). shown_of p y.answer y.count (os ++ drop n outputs)) d
-        ∙ ap (λ (l : List ℕ). shown_of p (done_of p mask values outputs memory).answer (done_of p mask values outputs memory).count l) slots_are
+-- ---- the byte after a number, which has ended as n
 
-    turned_left : (out new : List ℕ) (next left : ℕ) → Wrote out s.at (shown_of p answer count (os ++ drop n outputs)) 378 next new → left ≡ s.left - 1
-        → Left (turned_of s mask p values outputs memory) out s.at (standing (record { stage = Line; number = 0; begun = false; left = left; port = 0; mask = mask; actor = s.actor; bindings = s.bindings; plan = s.plan; at = next }) values (os ++ drop n outputs) (ms ++ drop m memory)) new
-    unfolding turned_of
-    turned_left out new next left w e =
-        let q = w.place ∙ ap (λ (l : List ℕ). s.at + length l) shown_is in
-        record {
-          stands = ap₂ (λ (l k : ℕ). record { stage = Line; number = 0; begun = false; left = l; port = 0; mask = mask; actor = s.actor; bindings = s.bindings; plan = s.plan; at = k }) e q;
-          held = refl;
-          slots = slots_are;
-          cells = cells_are;
-          bytes = w.bytes ∙ ap (sets out s.at) shown_is;
-          place = q;
-          short = subst (λ (l : List ℕ). length l ≤ 378) shown_is w.short;
-        }
+module _ (s : State) (n b : ℕ) (p v o m : List ℕ) where
+  -- the value of another input is to come
+  module _ (i : ℕ) (e : next_input p s.port ≡ Some i) where
+    pub blank_wrong : (b ≡ 32 → ⊥) → standing (wrong_of s) v o m ≡ number_ends s n b p v o m
+    unfolding number_ends
+    blank_wrong q = sym (simp (number_ends, e, ne_eqb b 32 q))
 
-  pub turned_as : (n m answer count : ℕ) (os ms out new : List ℕ) (next left : ℕ) → n ≡ ports_of p → m ≡ cells_of p
-      → outcome answer count os ms ≡ cycle_of p mask (take n values) (take m memory) (take n outputs)
-      → Wrote out s.at (shown_of p answer count (os ++ drop n outputs)) 378 next new → left ≡ s.left - 1
-      → Left (turned_of s mask p values outputs memory) out s.at (standing (record { stage = Line; number = 0; begun = false; left = left; port = 0; mask = mask; actor = s.actor; bindings = s.bindings; plan = s.plan; at = next }) values (os ++ drop n outputs) (ms ++ drop m memory)) new
-  turned_as n m answer count os ms out new next left en em d w e =
-      turned_left n m answer count os ms en em (done_is n m answer count os ms en em d) out new next left w e
+    pub blank_next : b ≡ 32 → standing (port_of s (mask_after s n) (i + 1)) (values_after s n v) o m ≡ number_ends s n b p v o m
+    unfolding number_ends
+    blank_next q = sym (simp (number_ends, e, eq-eqb b 32 q))
 
--- ---- the byte after a number
+  -- no input is to come
+  module _ (e : next_input p s.port ≡ None) where
+    pub end_wrong : (b ≡ 10 → ⊥) → standing (wrong_of s) v o m ≡ number_ends s n b p v o m
+    unfolding number_ends
+    end_wrong q = sym (simp (number_ends, e, ne_eqb b 10 q))
 
-module _ (s : State) (b : ℕ) (p v o m : List ℕ) (i n : ℕ) (ei : i ≡ next_input p s.port) (en : n ≡ ports_of p) where
-  more : i < n → ltb (next_input p s.port) (ports_of p) ≡ true
-  more h = ap₂ ltb (sym ei) (sym en) ∙ lt-ltb i n h
-
-  no_more_law : n ≤ i → ltb (next_input p s.port) (ports_of p) ≡ false
-  no_more_law h = ap₂ ltb (sym ei) (sym en) ∙ le-ltb i n h
-
-  pub blank_wrong : i < n → (b ≡ 32 → ⊥) → standing (wrong_of s) v o m ≡ number_ends s b p v o m
-  unfolding number_ends
-  blank_wrong h q = sym (simp (number_ends, more h, ne_eqb b 32 q))
-
-  pub blank_next : i < n → b ≡ 32 → standing (port_of s (mask_after s) (i + 1)) (values_after s v) o m ≡ number_ends s b p v o m
-  unfolding number_ends
-  blank_next h q = ap (λ (k : ℕ). standing (port_of s (mask_after s) (k + 1)) (values_after s v) o m) ei ∙ sym (simp (number_ends, more h, eq-eqb b 32 q))
-
-  pub end_wrong : n ≤ i → (b ≡ 10 → ⊥) → standing (wrong_of s) v o m ≡ number_ends s b p v o m
-  unfolding number_ends
-  end_wrong h q = sym (simp (number_ends, no_more_law h, ne_eqb b 10 q))
-
-  pub end_turn : n ≤ i → b ≡ 10 → turned_of s (mask_after s) p (values_after s v) o m ≡ number_ends s b p v o m
-  unfolding number_ends
-  end_turn h q = sym (simp (number_ends, no_more_law h, eq-eqb b 10 q))
+    pub end_turn : b ≡ 10 → turned_of s (mask_after s n) p (values_after s n v) o m ≡ number_ends s n b p v o m
+    unfolding number_ends
+    end_turn q = sym (simp (number_ends, e, eq-eqb b 10 q))
 
   -- as the code has them: r is the state, k the mask and w the values that it keeps
-  pub left_blank_wrong : (r : State) (out : List ℕ) → i < n → (b ≡ 32 → ⊥) → r ≡ wrong_of s → Left (number_ends s b p v o m) out s.at (standing r v o m) out
-  left_blank_wrong r out h q e = left_standing (number_ends s b p v o m) r s.at v o m out (ap (λ (t : State). standing t v o m) e ∙ blank_wrong h q) (ap (λ (t : State). t.at) e)
+  pub left_blank_wrong : (i : ℕ) (r : State) (out : List ℕ) → next_input p s.port ≡ Some i → (b ≡ 32 → ⊥) → r ≡ wrong_of s → Left (number_ends s n b p v o m) out s.at (standing r v o m) out
+  left_blank_wrong i r out h q e = left_standing (number_ends s n b p v o m) r s.at v o m out (ap (λ (t : State). standing t v o m) e ∙ blank_wrong i h q) (ap (λ (t : State). t.at) e)
 
-  pub left_end_wrong : (r : State) (out : List ℕ) → n ≤ i → (b ≡ 10 → ⊥) → r ≡ wrong_of s → Left (number_ends s b p v o m) out s.at (standing r v o m) out
-  left_end_wrong r out h q e = left_standing (number_ends s b p v o m) r s.at v o m out (ap (λ (t : State). standing t v o m) e ∙ end_wrong h q) (ap (λ (t : State). t.at) e)
+  pub left_end_wrong : (r : State) (out : List ℕ) → next_input p s.port ≡ None → (b ≡ 10 → ⊥) → r ≡ wrong_of s → Left (number_ends s n b p v o m) out s.at (standing r v o m) out
+  left_end_wrong r out h q e = left_standing (number_ends s n b p v o m) r s.at v o m out (ap (λ (t : State). standing t v o m) e ∙ end_wrong h q) (ap (λ (t : State). t.at) e)
 
-  pub left_blank : (r : State) (k : ℕ) (w out : List ℕ) → i < n → b ≡ 32 → r ≡ port_of s k (i + 1) → k ≡ mask_after s → w ≡ values_after s v → Left (number_ends s b p v o m) out s.at (standing r w o m) out
-  left_blank r k w out h q e f g =
-      left_standing (number_ends s b p v o m) r s.at w o m out
-      (ap₂ (λ (t : State) (l : List ℕ). standing t l o m) (e ∙ ap (λ (j : ℕ). port_of s j (i + 1)) f) g ∙ blank_next h q)
+  pub left_blank : (i : ℕ) (r : State) (k : ℕ) (w out : List ℕ) → next_input p s.port ≡ Some i → b ≡ 32 → r ≡ port_of s k (i + 1) → k ≡ mask_after s n → w ≡ values_after s n v → Left (number_ends s n b p v o m) out s.at (standing r w o m) out
+  left_blank i r k w out h q e f g =
+      left_standing (number_ends s n b p v o m) r s.at w o m out
+      (ap₂ (λ (t : State) (l : List ℕ). standing t l o m) (e ∙ ap (λ (j : ℕ). port_of s j (i + 1)) f) g ∙ blank_next i h q)
       (ap (λ (t : State). t.at) e)
 
-  pub left_turn : (r : State) (k : ℕ) (w out new o' m' : List ℕ) → n ≤ i → b ≡ 10 → k ≡ mask_after s → w ≡ values_after s v → Left (turned_of s k p w o m) out s.at (standing r w o' m') new → Left (number_ends s b p v o m) out s.at (standing r w o' m') new
-  left_turn r k w out new o' m' h q f g l = left_as l (ap₂ (λ (j : ℕ) (x : List ℕ). turned_of s j p x o m) f g ∙ end_turn h q)
+  pub left_turn : (after : Lined) (k : ℕ) (w out new : List ℕ) → next_input p s.port ≡ None → b ≡ 10 → k ≡ mask_after s n → w ≡ values_after s n v → Left (turned_of s k p w o m) out s.at after new → Left (number_ends s n b p v o m) out s.at after new
+  left_turn after k w out new h q f g l = left_as l (ap₂ (λ (j : ℕ) (x : List ℕ). turned_of s j p x o m) f g ∙ end_turn h q)
 
 -- ---- a byte of a line
 
@@ -126,17 +120,17 @@ module _ (s : State) (b : ℕ) (plan v o m : List ℕ) where
   unfolding line_byte
   line_takes_law e = sym (simp (line_byte, e))
 
-  pub line_unbegun : line_takes s b ≡ false → s.begun ≡ false → standing (wrong_of s) v o m ≡ line_byte s b plan v o m
+  pub line_unbegun : line_takes s b ≡ false → s.number ≡ None → standing (wrong_of s) v o m ≡ line_byte s b plan v o m
   unfolding line_byte
   line_unbegun e f = sym (simp (line_byte, e, f))
 
-  pub line_ends : line_takes s b ≡ false → s.begun ≡ true → number_ends s b (take s.plan plan) v o m ≡ line_byte s b plan v o m
+  pub line_ends : (n : ℕ) → line_takes s b ≡ false → s.number ≡ Some n → number_ends s n b (take s.plan plan) v o m ≡ line_byte s b plan v o m
   unfolding line_byte
-  line_ends e f = sym (simp (line_byte, e, f))
+  line_ends n e f = sym (simp (line_byte, e, f))
 
   pub left_takes : (r : State) (out : List ℕ) → line_takes s b ≡ true → r ≡ longer_of s b → Left (line_byte s b plan v o m) out s.at (standing r v o m) out
   unfolding longer_of
   left_takes r out e f = left_standing (line_byte s b plan v o m) r s.at v o m out (ap (λ (t : State). standing t v o m) f ∙ line_takes_law e) (ap (λ (t : State). t.at) f)
 
-  pub left_unbegun : (r : State) (out : List ℕ) → line_takes s b ≡ false → s.begun ≡ false → r ≡ wrong_of s → Left (line_byte s b plan v o m) out s.at (standing r v o m) out
+  pub left_unbegun : (r : State) (out : List ℕ) → line_takes s b ≡ false → s.number ≡ None → r ≡ wrong_of s → Left (line_byte s b plan v o m) out s.at (standing r v o m) out
   left_unbegun r out e g f = left_standing (line_byte s b plan v o m) r s.at v o m out (ap (λ (t : State). standing t v o m) f ∙ line_unbegun e g) (ap (λ (t : State). t.at) f)

@@ -5,6 +5,7 @@ use Rattle.language.specs.Worked.{line, is_bad}
 use Rattle.figures.specs.declared.Stage.{Stage}
 use Rattle.figures.specs.declared.Stage.TheVariants.{ActorCount, Actor, BindingsCount, Bindings, CycleCount, Line, Through, Wrong, Stopped}
 use Rattle.figures.specs.declared.State.{State}
+use Rattle.input_bytes.specs.declared.tables.Tables.{Tables}
 use Rattle.input_bytes.specs.Texts.{count_byte, actor_byte, bindings_byte}
 use Rattle.input_bytes.specs.Lines.{Lined, line_byte, cells_of}
 
@@ -21,6 +22,10 @@ pub record Machine : Type 0 where
 
 abbrev pub machine : State → List ℕ → List ℕ → List ℕ → List ℕ → List ℕ → List ℕ → List ℕ → Machine
 machine s a b p v o m w = record { state = s; actor = a; bindings = b; plan = p; values = v; outputs = o; memory = m; wrote = w }
+
+-- the state with the tables, nothing written
+abbrev pub machine_of : State → Tables → Machine
+machine_of s t = machine s t.actor t.bindings t.plan t.values t.outputs t.memory []
 
 abbrev pub lined : Machine → Lined → Machine
 lined m x = machine x.state m.actor m.bindings m.plan x.values x.outputs x.memory x.wrote

@@ -1,3 +1,4 @@
+pub mod Tables
 pub mod Texts
 pub mod Lines
 pub mod Bytes

@@ -1,10 +1,12 @@
 -- A cycle's line as it is read, the cycle, and the line that is written for it. Assumes nothing: these are definitions.
-use Rattle.std.specs.Prelude.{◌≡◌, true, false, List, [], ◌++◌, ℕ, zero, suc, ◌+◌, ◌-◌, ◌%◌, ◌≤◌, min, eqb, ltb, length, take, drop, set}
+use Rattle.std.specs.Prelude.{◌≡◌, true, false, Option, None, Some, List, [], ◌++◌, ℕ, zero, suc, ◌+◌, ◌-◌, ◌%◌, ◌≤◌, min, eqb, ltb, length, take, drop, set}
 use Rattle.std.proofs.lemmas.List.Edits.{sets}
 use Rattle.language.specs.Limits.{limits}
 use Rattle.language.specs.Meaning.{Outcome}
 use Rattle.plan.specs.Layout.{port_at, memory_count, cells_before}
 use Rattle.turn.specs.Cycle.{cycle_of}
+use Rattle.turn.specs.declared.Done.{Done}
+use Rattle.input_bytes.specs.declared.tables.Tables.{Tables}
 use Rattle.cycle_line.specs.Shown.{line_bytes, ports_of, shown_of}
 use Rattle.figures.specs.declared.Stage.TheVariants.{Line}
 use Rattle.figures.specs.declared.State.{State}
@@ -14,12 +16,12 @@ use Rattle.figures.specs.States.{wrong_of, port_of, line_takes, longer_of}
 unfoldable pub cells_of : List ℕ → ℕ
 cells_of p = min (cells_before p (memory_count p)) limits.cells
 
--- the first input among k ports from i on, or i + k
-unfoldable pub input_from : List ℕ → ℕ → ℕ → ℕ
-input_from p zero i = i
-input_from p (suc k) i = elim (ltb (port_at p i) 256) [ true ↦ i | false ↦ input_from p k (i + 1) ]
+-- the first input among k ports from i on
+unfoldable pub input_from : List ℕ → ℕ → ℕ → Option ℕ
+input_from p zero i = None
+input_from p (suc k) i = elim (ltb (port_at p i) 256) [ true ↦ Some i | false ↦ input_from p k (i + 1) ]
 
-unfoldable pub next_input : List ℕ → ℕ → ℕ
+unfoldable pub next_input : List ℕ → ℕ → Option ℕ
 next_input p i = input_from p (ports_of p - i) i
 
 -- what a byte of a line leaves: the state, the tables, and what is written
@@ -34,6 +36,10 @@ pub record Lined : Type 0 where
 abbrev pub standing : State → List ℕ → List ℕ → List ℕ → Lined
 standing s values outputs memory = record { state = s; values = values; outputs = outputs; memory = memory; wrote = [] }
 
+-- a state and the tables, with nothing written
+abbrev pub standing_of : State → Tables → Lined
+standing_of s t = standing s t.values t.outputs t.memory
+
 -- `after` and the table of bytes are what a function leaves, by what a byte of a line leaves
 pub record Left (x : Lined) (old : List ℕ) (at : ℕ) (after : Lined) (out : List ℕ) : Type 0 where
   pub stands : after.state ≡ x.state
@@ -44,20 +50,13 @@ pub record Left (x : Lined) (old : List ℕ) (at : ℕ) (after : Lined) (out : L
   pub place : after.state.at ≡ at + length x.wrote
   pub short : length x.wrote ≤ line_bytes
 
--- the tables that lines are read into have room
-pub record Roomy (values outputs memory out : List ℕ) (at : ℕ) : Type 0 where
-  pub ports : limits.ports ≤ length values
-  pub slots : limits.ports ≤ length outputs
-  pub cells : limits.cells ≤ length memory
-  pub room : at + line_bytes ≤ length out
+-- ---- a number of the line has ended as n
 
--- ---- a number of the line has ended
+unfoldable pub mask_after : State → ℕ → ℕ
+mask_after s n = elim (eqb s.port 0) [ true ↦ n % 4_294_967_296 | false ↦ s.mask ]
 
-unfoldable pub mask_after : State → ℕ
-mask_after s = elim (eqb s.port 0) [ true ↦ s.number % 4_294_967_296 | false ↦ s.mask ]
-
-unfoldable pub values_after : State → List ℕ → List ℕ
-values_after s v = elim (eqb s.port 0) [ true ↦ v | false ↦ set v (s.port - 1) s.number ]
+unfoldable pub values_after : State → ℕ → List ℕ → List ℕ
+values_after s n v = elim (eqb s.port 0) [ true ↦ v | false ↦ set v (s.port - 1) n ]
 
 -- a cycle of the plan over the first places of the tables
 unfoldable pub done_of : List ℕ → ℕ → List ℕ → List ℕ → List ℕ → Outcome
@@ -69,8 +68,15 @@ outputs_after p o outputs = o.outputs ++ drop (ports_of p) outputs
 unfoldable pub memory_after : List ℕ → Outcome → List ℕ → List ℕ
 memory_after p o memory = o.memory ++ drop (cells_of p) memory
 
+-- what a cycle leaves, by its outcome
+pub record Ran (p : List ℕ) (o : Outcome) (old_outputs old_memory : List ℕ) (r : Done) (outputs memory : List ℕ) : Type 0 where
+  pub answer : r.answer ≡ o.answer
+  pub count : r.present ≡ o.count
+  pub slots : outputs ≡ outputs_after p o old_outputs
+  pub cells : memory ≡ memory_after p o old_memory
+
 abbrev pub turned_state : State → ℕ → ℕ → State
-turned_state s mask n = record { stage = Line; number = 0; begun = false; left = s.left - 1; port = 0; mask = mask; actor = s.actor; bindings = s.bindings; plan = s.plan; at = s.at + n }
+turned_state s mask n = record { stage = Line; number = None; left = s.left - 1; port = 0; mask = mask; actor = s.actor; bindings = s.bindings; plan = s.plan; at = s.at + n }
 
 unfoldable pub turned_of : State → ℕ → List ℕ → List ℕ → List ℕ → List ℕ → Lined
 turned_of s mask p values outputs memory =
@@ -79,15 +85,15 @@ turned_of s mask p values outputs memory =
     record { state = turned_state s mask (length w); values = values; outputs = outputs_after p o outputs; memory = memory_after p o memory; wrote = w }
 
 -- a blank before the next input's value, a newline after the last
-unfoldable pub number_ends : State → ℕ → List ℕ → List ℕ → List ℕ → List ℕ → Lined
-number_ends s b p values outputs memory =
-    elim (ltb (next_input p s.port) (ports_of p)) [
-      | true ↦ elim (eqb b 32) [
-        | true ↦ standing (port_of s (mask_after s) (next_input p s.port + 1)) (values_after s values) outputs memory
+unfoldable pub number_ends : State → ℕ → ℕ → List ℕ → List ℕ → List ℕ → List ℕ → Lined
+number_ends s n b p values outputs memory =
+    elim (next_input p s.port) [
+      | Some i ↦ elim (eqb b 32) [
+        | true ↦ standing (port_of s (mask_after s n) (i + 1)) (values_after s n values) outputs memory
         | false ↦ standing (wrong_of s) values outputs memory
       ]
-      | false ↦ elim (eqb b 10) [
-        | true ↦ turned_of s (mask_after s) p (values_after s values) outputs memory
+      | None ↦ elim (eqb b 10) [
+        | true ↦ turned_of s (mask_after s n) p (values_after s n values) outputs memory
         | false ↦ standing (wrong_of s) values outputs memory
       ]
     ]
@@ -97,5 +103,5 @@ unfoldable pub line_byte : State → ℕ → List ℕ → List ℕ → List ℕ 
 line_byte s b plan values outputs memory =
     elim (line_takes s b) [
       | true ↦ standing (longer_of s b) values outputs memory
-      | false ↦ elim s.begun [ true ↦ number_ends s b (take s.plan plan) values outputs memory | false ↦ standing (wrong_of s) values outputs memory ]
+      | false ↦ elim s.number [ Some n ↦ number_ends s n b (take s.plan plan) values outputs memory | None ↦ standing (wrong_of s) values outputs memory ]
     ]

@@ -1,25 +1,23 @@
 // The end of a run: what is still to be written.
-ghost use Rattle.std.specs.Prelude.{◌≡◌, [], ◌∷◌, ◌+◌, ◌*◌, ◌≤◌, length, drop};
+ghost use Rattle.std.specs.Prelude.{[], ◌∷◌, ◌+◌, ◌*◌, ◌≤◌, length};
 ghost use Rattle.cycle_line.specs.Shown.{cells_bytes};
 ghost use Rattle.figures.specs.Written.{number_bytes};
-ghost use Rattle.language.specs.Limits.{limits};
 ghost use Rattle.language.specs.Worked.{line, is_bad};
 ghost use Rattle.figures.specs.Written.{Wrote, blanked};
-ghost use Rattle.input_bytes.specs.Bytes.{machine, ended_of};
+ghost use Rattle.input_bytes.specs.Bytes.{machine_of, ended_of};
 
-use crate::turns::cells;
-use figures::{Stage, State, least, next_number, number, put, wide};
+use crate::tables::Tables;
+use crate::turns::{cells, planned};
+use figures::{Stage, State, next_number, number, put, text};
 
 // Some numbers, each after a blank.
-fn numbers_from(all: &[u64], from: usize, out: &mut [u8], at: usize) -> usize
-    requires { at + number_bytes * length (drop from all.now) ≤ length out.old }
-    ensures { Wrote out.old at (blanked (drop from all.now)) (number_bytes * length (drop from all.now)) result out.new }
+fn numbers(all: &[u64], out: &mut [u8], at: usize) -> usize
+    requires { at + number_bytes * length all.now ≤ length out.old }
+    ensures { Wrote out.old at (blanked all.now) (number_bytes * length all.now) result out.new }
 {
     let mut k = at;
-    let mut i = from;
-    while i < all.len() {
-        k = next_number(out, k, all[i]);
-        i += 1;
+    for n in all {
+        k = next_number(out, k, *n);
     }
     k
 }
@@ -29,12 +27,14 @@ fn show_cells(all: &[u64], out: &mut [u8], at: usize) -> usize
     requires { at + (number_bytes * length all.now + 1) ≤ length out.old }
     ensures { Wrote out.old at (line all.now) (number_bytes * length all.now + 1) result out.new }
 {
-    if all.len() == 0 {
-        return put(out, at, 10);
+    match all.split_first() {
+        None => put(out, at, b'\n'),
+        Some((first, others)) => {
+            let k = number(out, at, *first);
+            let e = numbers(others, out, k);
+            put(out, e, b'\n')
+        }
     }
-    let k = number(out, at, all[0]);
-    let e = numbers_from(all, 1, out, k);
-    put(out, e, 10)
 }
 
 // A refusal's number and place.
@@ -42,42 +42,35 @@ fn show_refusal(row: u32, place: u32, out: &mut [u8], at: usize) -> usize
     requires { at + 2 * number_bytes ≤ length out.old }
     ensures { Wrote out.old at (line (row ∷ place ∷ [])) (2 * number_bytes) result out.new }
 {
-    let k = number(out, at, wide(row));
-    let e = next_number(out, k, wide(place));
-    put(out, e, 10)
+    let k = number(out, at, u64::from(row));
+    let e = next_number(out, k, u64::from(place));
+    put(out, e, b'\n')
 }
 
 fn show_bad(out: &mut [u8], at: usize) -> usize
     requires { at + 4 ≤ length out.old }
     ensures { Wrote out.old at is_bad 4 result out.new }
 {
-    out[at] = b'b';
-    out[at + 1] = b'a';
-    out[at + 2] = b'd';
-    out[at + 3] = b'\n';
-    at + 4
+    text(out, at, b"bad\n")
 }
 
 // The input has ended, or no more of it is read.
-pub fn ended(s: State, plan: &[u32], memory: &[u64], out: &mut [u8]) -> usize
-    requires { (limits.cells ≤ length memory.now) × (s.at + cells_bytes ≤ length out.old) }
-    ensures { Wrote out.old s.at (ended_of (machine s [] [] plan.now [] [] memory.now [])) cells_bytes result out.new }
+pub fn ended(s: State, tables: &mut Tables) -> usize
+    requires { s.at + cells_bytes ≤ length tables.old.out }
+    ensures { Wrote tables.old.out s.at (ended_of (machine_of s tables.old)) cells_bytes result tables.new.out }
 {
-    let at = s.at;
-    let stage = s.stage;
-    match stage {
+    match s.stage {
         Stage::Through => {
-            let n = least(s.plan, plan.len());
-            let m = cells(&plan[..n]);
-            show_cells(&memory[..m], out, at)
+            let n = cells(planned(&tables.plan, s.plan));
+            show_cells(&tables.memory[..n], &mut tables.out, s.at)
         }
-        Stage::Stopped(row, place) => show_refusal(row, place, out, at),
-        Stage::ActorCount => show_bad(out, at),
-        Stage::Actor => show_bad(out, at),
-        Stage::BindingsCount => show_bad(out, at),
-        Stage::Bindings => show_bad(out, at),
-        Stage::CycleCount => show_bad(out, at),
-        Stage::Line => show_bad(out, at),
-        Stage::Wrong => show_bad(out, at),
+        Stage::Stopped(row, place) => show_refusal(row, place, &mut tables.out, s.at),
+        Stage::ActorCount
+        | Stage::Actor
+        | Stage::BindingsCount
+        | Stage::Bindings
+        | Stage::CycleCount
+        | Stage::Line
+        | Stage::Wrong => show_bad(&mut tables.out, s.at),
     }
 }

@@ -1,142 +1,153 @@
 // A cycle's line: its numbers, the cycle, and the line that is written for it.
-ghost use Rattle.std.specs.Prelude.{◌≡◌, ◌+◌, ◌*◌, ◌≤◌, length};
+ghost use Rattle.std.specs.Prelude.{◌≡◌, ◌+◌, ◌<◌, ◌≤◌, length, take, IfSome};
+ghost use Rattle.cycle_line.specs.Shown.{line_bytes};
 ghost use Rattle.language.specs.Limits.{limits};
-ghost use Rattle.input_bytes.specs.Lines.{cells_of, next_input, mask_after, values_after, turned_of, standing, number_ends, line_byte, Left, Roomy};
+ghost use Rattle.input_bytes.specs.Lines.{cells_of, next_input, done_of, Ran, mask_after, values_after, turned_of, standing_of, number_ends, line_byte, Left};
+ghost use Rattle.input_bytes.specs.Tables.{SameTexts};
 
+use crate::tables::Tables;
 use cycle_line::{ports, show};
-use figures::{Stage, State, at_port, least, less, longer, takes_in_line, wrong};
-use plan::{cells_before, memory_count, place, port_at};
+use figures::{Stage, State};
+use plan::{cells_before, memory_count, port_at};
+use turn::Done;
 
 const OUTPUT: u32 = plan::OUTPUT;
 
 const CELLS: usize = language::Plan::CELLS as usize;
 
+// The plan, of which the state says how much of its table it is.
+pub fn planned(plan: &[u32], n: usize) -> &[u32]
+    ensures { result.now ≡ take n plan.now }
+{
+    &plan[..n.min(plan.len())]
+}
+
 // The cells of the plan, as many as the table has room for.
+#[tactic(auto, unfolding(crate::specs::Lines::cells_of))]
 pub fn cells(plan: &[u32]) -> usize
     ensures { (result ≡ cells_of plan.now) × (result ≤ limits.cells) }
 {
-    least(cells_before(plan, memory_count(plan)), CELLS)
+    cells_before(plan, memory_count(plan)).min(CELLS)
 }
 
-// The first input from a port on, if there is one; else what is not below the number of ports.
-fn next_input(plan: &[u32], from: u32) -> u32
-    ensures { result ≡ next_input plan.now from }
+// The first input from a port on.
+fn next_input(plan: &[u32], from: u32) -> Option<u32>
+    ensures found { result ≡ next_input plan.now from }
+    ensures within { IfSome result (λ i. i < limits.ports) }
 {
-    let n = ports(plan);
-    let mut i = from;
-    while i < n {
+    for i in from..ports(plan) {
         if port_at(plan, i) < OUTPUT {
-            return i;
+            return Some(i);
         }
-        i += 1;
     }
-    i
+    None
 }
 
-// The line is whole: the cycle is run, and its line written.
-fn turned(
-    s: State,
-    mask: u32,
-    plan: &[u32],
-    values: &[u64],
-    outputs: &mut [u64],
-    memory: &mut [u64],
-    out: &mut [u8],
-) -> State
-    requires { Roomy values.now outputs.old memory.old out.old s.at }
-    ensures { let made = turned_of s mask plan.now values.now outputs.old memory.old in
-        let after = standing result values.now outputs.new memory.new in
-        Left made out.old s.at after out.new }
+// A cycle of the plan over the first places of the tables.
+fn ran(plan: &[u32], mask: u32, values: &[u64], outputs: &mut [u64], memory: &mut [u64]) -> Done
+    requires ports { limits.ports ≤ length values.now }
+    requires slots { limits.ports ≤ length outputs.old }
+    requires cells { limits.cells ≤ length memory.old }
+    ensures { let made = done_of plan.now mask values.now outputs.old memory.old in
+        Ran plan.now made outputs.old memory.old result outputs.new memory.new }
 {
-    let n = place(ports(plan));
+    let n = ports(plan) as usize;
     let m = cells(plan);
-    let done = cycle::cycle(
+    cycle::cycle(
         plan,
         mask,
         &values[..n],
         &mut memory[..m],
         &mut outputs[..n],
+    )
+}
+
+// The line is whole: the cycle is run, and its line written.
+fn turned(s: State, mask: u32, tables: &mut Tables) -> State
+    requires { s.at + line_bytes ≤ length tables.old.out }
+    ensures made { let made = turned_of s mask (take s.plan tables.old.plan) tables.old.values tables.old.outputs tables.old.memory in
+        Left made tables.old.out s.at (standing_of result tables.new) tables.new.out }
+    ensures texts { SameTexts tables.old tables.new }
+{
+    let plan = planned(&tables.plan, s.plan);
+    let done = ran(
+        plan,
+        mask,
+        &tables.values,
+        &mut tables.outputs,
+        &mut tables.memory,
     );
-    let k = show(plan, done.answer, done.present, outputs, out, s.at);
+    let k = show(
+        plan,
+        done.answer,
+        done.present,
+        &tables.outputs,
+        &mut tables.out,
+        s.at,
+    );
     State {
         stage: Stage::Line,
-        number: 0,
-        begun: false,
-        left: less(s.left),
+        number: None,
+        left: s.left.saturating_sub(1),
         port: 0,
-        mask: mask,
-        actor: s.actor,
-        bindings: s.bindings,
-        plan: s.plan,
+        mask,
         at: k,
+        ..s
     }
 }
 
 // The mask, or a port's value, is kept.
-fn keep_value(s: State, values: &mut [u64]) -> u32
-    ensures { (result ≡ mask_after s) × (values.new ≡ values_after s values.old) }
+#[tactic(auto, unfolding(crate::specs::Lines::mask_after, crate::specs::Lines::values_after))]
+fn keep_value(s: State, n: u64, values: &mut [u64]) -> u32
+    ensures { (result ≡ mask_after s n) × (values.new ≡ values_after s n values.old) }
 {
     if s.port == 0 {
-        return (s.number % 4294967296) as u32;
+        return (n % 4294967296) as u32;
     }
-    let i = place(s.port - 1);
+    let i = s.port as usize - 1;
     if i < values.len() {
-        values[i] = s.number;
+        values[i] = n;
     }
     s.mask
 }
 
 // A number of the line has ended: a blank before the next input's value, a newline after the last.
-fn number_ends(
-    s: State,
-    b: u8,
-    plan: &[u32],
-    values: &mut [u64],
-    outputs: &mut [u64],
-    memory: &mut [u64],
-    out: &mut [u8],
-) -> State
-    requires { Roomy values.old outputs.old memory.old out.old s.at }
-    ensures { let made = number_ends s b plan.now values.old outputs.old memory.old in
-        let after = standing result values.new outputs.new memory.new in
-        Left made out.old s.at after out.new }
+fn number_ends(s: State, n: u64, b: u8, tables: &mut Tables) -> State
+    requires { s.at + line_bytes ≤ length tables.old.out }
+    ensures made { let made = number_ends s n b (take s.plan tables.old.plan) tables.old.values tables.old.outputs tables.old.memory in
+        Left made tables.old.out s.at (standing_of result tables.new) tables.new.out }
+    ensures texts { SameTexts tables.old tables.new }
 {
-    let i = next_input(plan, s.port);
-    if i < ports(plan) {
-        if b != 32 {
-            return wrong(s);
+    match next_input(planned(&tables.plan, s.plan), s.port) {
+        Some(i) => {
+            if b != b' ' {
+                return s.wrong();
+            }
+            let mask = keep_value(s, n, &mut tables.values);
+            s.at_port(mask, i + 1)
         }
-        let mask = keep_value(s, values);
-        return at_port(s, mask, i + 1);
+        None => {
+            if b != b'\n' {
+                return s.wrong();
+            }
+            let mask = keep_value(s, n, &mut tables.values);
+            turned(s, mask, tables)
+        }
     }
-    if b != 10 {
-        return wrong(s);
-    }
-    let mask = keep_value(s, values);
-    turned(s, mask, plan, values, outputs, memory, out)
 }
 
 // A byte of a cycle's line.
-pub fn line_byte(
-    s: State,
-    b: u8,
-    plan: &[u32],
-    values: &mut [u64],
-    outputs: &mut [u64],
-    memory: &mut [u64],
-    out: &mut [u8],
-) -> State
-    requires { Roomy values.old outputs.old memory.old out.old s.at }
-    ensures { let made = line_byte s b plan.now values.old outputs.old memory.old in
-        let after = standing result values.new outputs.new memory.new in
-        Left made out.old s.at after out.new }
+pub fn line_byte(s: State, b: u8, tables: &mut Tables) -> State
+    requires { s.at + line_bytes ≤ length tables.old.out }
+    ensures made { let made = line_byte s b tables.old.plan tables.old.values tables.old.outputs tables.old.memory in
+        Left made tables.old.out s.at (standing_of result tables.new) tables.new.out }
+    ensures texts { SameTexts tables.old tables.new }
 {
-    if takes_in_line(s, b) {
-        return longer(s, b);
+    if s.takes_in_line(b) {
+        return s.longer(b);
     }
-    if !s.begun {
-        return wrong(s);
+    match s.number {
+        Some(n) => number_ends(s, n, b, tables),
+        None => s.wrong(),
     }
-    let n = least(s.plan, plan.len());
-    number_ends(s, b, &plan[..n], values, outputs, memory, out)
 }

@@ -1,48 +1,122 @@
 -- Laws of the start and the end of a line, and that what stands between them is the line at a place. Assumes nothing.
 use mathlib.Core.Path.{◌≡◌, refl, sym, ap, ◌∙◌}
 use mathlib.Core.Bool.{Bool, true, false}
-use mathlib.Core.List.{List, [], ◌∷◌, ◌++◌, append_assoc}
+use mathlib.Core.List.{reverse-append, List, [], ◌∷◌, ◌++◌, append_assoc}
 use Prim.Native.Nat.{ℕ, zero, suc, ◌+◌, ◌-◌, ◌≤◌, ◌<◌}
 use native.Mathlib.Omega.{arith}
 use native.Mathlib.Numerals.{add-one}
 use native.Mathlib.Nat.{not-suc-le-zero}
-use lib.Dec.{eqb}
-use lib.ListN.{length, take, drop, get_or, length-append, drop_of_length-le}
-use lib.Seq.{drop-cons, drop-drop, drop-append-add, get_or-drop, get_or-append_seam}
-use borrow.Author.Tests.{eq-eqb, ne_eqb, eqb-true, eqb-false}
+use lib.Dec.{eqb, ltb}
+use lib.ListN.{length-reverse, length-take, length-drop, length, take, drop, get_or, length-append}
+use lib.Seq.{take-suc, take_all, drop-drop, drop-append-add, get_or-drop, get_or-append_seam}
+use borrow.Author.Tests.{eq-eqb, ne_eqb, eqb-true, eqb-false, ltb-true, ltb-false}
+use Rattle.std.specs.Prelude.{Some, None, cond, position, reverse}
+use Rattle.std.specs.List.{position_or_len, prefix_len}
+use Rattle.std.proofs.lemmas.List.Recursion.{is_position_or_len}
 use Rattle.language.specs.Text.{Line, up_to_end, line_from}
 use Rattle.lines.specs.Bounds.{start_of, end_of, LineStands}
 
--- ---- the start, going down from the place
+-- ---- the first of a list that passes
 
-pub start_first : (text : List ℕ) (p : ℕ) → p ≡ 0 → start_of text p ≡ p
-unfolding start_of
-start_first text p e = rw e
+found_first : (t : ℕ → Bool) (l : List ℕ) (n : ℕ) → position t l ≡ Some n → (n < length l) × (position_or_len t l ≡ n)
+found_first t l n e = go (ltb (position_or_len t l) (length l)) refl e
+  where
+    go : (b : Bool) → ltb (position_or_len t l) (length l) ≡ b → cond b (Some (position_or_len t l)) None ≡ Some n → (n < length l) × (position_or_len t l ≡ n)
+    go true q f = let z : position_or_len t l ≡ n = cc in (rw (← z) (ltb-true _ _ q), z)
+    go false q f = absurd cc
+
+found_none : (t : ℕ → Bool) (l : List ℕ) → position t l ≡ None → length l ≤ position_or_len t l
+found_none t l e = go (ltb (position_or_len t l) (length l)) refl e
+  where
+    go : (b : Bool) → ltb (position_or_len t l) (length l) ≡ b → cond b (Some (position_or_len t l)) None ≡ None → length l ≤ position_or_len t l
+    go true q f = absurd cc
+    go false q f = ltb-false _ _ q
+
+-- ---- the start, by the last line end before the place
 
 -- the byte before the place is a line end, or it is none
 module _ (text : List ℕ) (p q : ℕ) (next : p ≡ q + 1) where
-  pub start_here : get_or text q 0 ≡ 10 → start_of text p ≡ p
+  start_here : get_or text q 0 ≡ 10 → start_of text p ≡ p
   unfolding start_of
   start_here e = rw (next, add-one) (simp (start_of, eq-eqb (get_or text q 0) 10 e))
 
-  pub start_before : (get_or text q 0 ≡ 10 → ⊥) → start_of text p ≡ start_of text q
+  start_before : (get_or text q 0 ≡ 10 → ⊥) → start_of text p ≡ start_of text q
   unfolding start_of
   start_before e = rw (next, add-one) (simp (start_of, ne_eqb (get_or text q 0) 10 e))
 
--- ---- the end, going up from the start
+abbrev back : List ℕ → ℕ → ℕ
+back text p = position_or_len (λ b. eqb b 10) (reverse (take p text))
 
-module _ (text : List ℕ) (i : ℕ) (h : i < length text) where
-  pub end_here : get_or text i 0 ≡ 10 → end_of text i ≡ i
-  unfolding end_of up_to_end
-  end_here e = simp (end_of, drop-cons text i 0 h, up_to_end, eq-eqb _ _ e) (omega arith)
+start_is : (text : List ℕ) (p : ℕ) → p ≤ length text → start_of text p ≡ p - back text p
+unfolding start_of
+start_is text zero h = omega arith
+start_is text (suc p) h = go (eqb (get_or text p 0) 10) refl (start_is text p (omega arith))
+  where
+    last : reverse (take (suc p) text) ≡ get_or text p 0 ∷ reverse (take p text)
+    last = ap reverse (take-suc text p 0 h) ∙ reverse-append (take p text) (get_or text p 0 ∷ [])
 
-  pub end_next : (get_or text i 0 ≡ 10 → ⊥) → end_of text i ≡ end_of text (i + 1)
-  unfolding end_of up_to_end
-  end_next e = simp (end_of, add-one, drop-cons text i 0 h, up_to_end, ne_eqb _ _ e) (omega arith)
+    go : (t : Bool) → eqb (get_or text p 0) 10 ≡ t → start_of text p ≡ p - back text p → elim t [ true ↦ suc p | false ↦ start_of text p ] ≡ suc p - back text (suc p)
+    go true e i = simp (last, position_or_len, prefix_len, e) (omega arith)
+    go false e i = simp (last, position_or_len, prefix_len, e) (omega arith)
 
-pub end_over : (text : List ℕ) (i : ℕ) → length text ≤ i → end_of text i ≡ i
-unfolding end_of up_to_end
-end_over text i h = simp (end_of, drop_of_length-le text h, up_to_end) (omega arith)
+pub start_past : (text : List ℕ) (p n : ℕ) → p ≤ length text → position (λ b. eqb b 10) (reverse (take p text)) ≡ Some n → (n ≤ p) × (p - n ≡ start_of text p)
+start_past text p n h e =
+    let q = start_is text p h in
+    let (a, b) = found_first (λ b. eqb b 10) (reverse (take p text)) n e in
+    let l = length-reverse (take p text) in
+    let m = length-take p text in
+    (omega arith, omega arith)
+
+pub start_first : (text : List ℕ) (p : ℕ) → p ≤ length text → position (λ b. eqb b 10) (reverse (take p text)) ≡ None → 0 ≡ start_of text p
+start_first text p h e =
+    let q = start_is text p h in
+    let a = found_none (λ b. eqb b 10) (reverse (take p text)) e in
+    let l = length-reverse (take p text) in
+    let m = length-take p text in
+    omega arith
+
+-- ---- the end, by the first line end from the start on
+
+up_is : (l : List ℕ) → length (up_to_end l) ≡ position_or_len (λ b. eqb b 10) l
+unfolding up_to_end
+up_is = is_position_or_len (λ (l : List ℕ). length (up_to_end l)) (λ b. eqb b 10) refl turn
+  where
+    turn : (x : ℕ) (l : List ℕ) → length (up_to_end (x ∷ l)) ≡ cond (eqb x 10) 0 (1 + length (up_to_end l))
+    turn x l = go (eqb x 10)
+      where
+        go : (t : Bool) → length {A = ℕ} (elim t [ true ↦ [] | false ↦ x ∷ up_to_end l ]) ≡ cond t 0 (1 + length (up_to_end l))
+        go true = refl
+        go false = omega arith
+
+up_at_most : (l : List ℕ) → length (up_to_end l) ≤ length l
+unfolding up_to_end
+up_at_most [] = omega arith
+up_at_most (x ∷ l) = go (eqb x 10) (up_at_most l)
+  where
+    go : (t : Bool) → length (up_to_end l) ≤ length l → length {A = ℕ} (elim t [ true ↦ [] | false ↦ x ∷ up_to_end l ]) ≤ suc (length l)
+    go true h = omega arith
+    go false h = omega arith
+
+-- what stands from the start on
+rest : (text : List ℕ) (from : ℕ) → take (length text - from) (drop from text) ≡ drop from text
+rest text from = take_all _ _ (omega (arith, length-drop from text))
+
+pub end_at : (text : List ℕ) (from n : ℕ) → from ≤ length text → position (λ b. eqb b 10) (take (length text - from) (drop from text)) ≡ Some n → (from + n ≤ length text) × (from + n ≡ end_of text from)
+unfolding end_of
+end_at text from n h e =
+    let (a, b) = found_first (λ b. eqb b 10) (drop from text) n (ap (position (λ b. eqb b 10)) (sym (rest text from)) ∙ e) in
+    let u = up_is (drop from text) in
+    let l = length-drop from text in
+    (omega arith, omega arith)
+
+pub end_over : (text : List ℕ) (from : ℕ) → from ≤ length text → position (λ b. eqb b 10) (take (length text - from) (drop from text)) ≡ None → length text ≡ end_of text from
+unfolding end_of
+end_over text from h e =
+    let a = found_none (λ b. eqb b 10) (drop from text) (ap (position (λ b. eqb b 10)) (sym (rest text from)) ∙ e) in
+    let u = up_is (drop from text) in
+    let l = length-drop from text in
+    let few = up_at_most (drop from text) in
+    omega arith
 
 -- what comes before the first line end is a front of the list
 front : (l : List ℕ) → take (length (up_to_end l)) l ≡ up_to_end l

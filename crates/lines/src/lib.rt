@@ -3,25 +3,35 @@
 // What goes out: a part of that text, the line without its line end; the empty part at the text's end for a place outside it.
 #![tactic(auto)]
 
-ghost use Rattle.std.specs.Prelude.{◌≡◌, [], ◌≤◌, length};
+ghost use Rattle.std.specs.Prelude.{◌≡◌, ◌==◌, [], ◌≤◌, length, position, reverse};
 ghost use Rattle.language.specs.Text.{line_from};
 ghost use Rattle.lines.specs.Bounds.{start_of, end_of, LineStands, LineOf};
 
 use language::Text;
+
+// How many bytes stand before the first line end, if there is one.
+fn on_to_end(text: &[u8]) -> Option<usize>
+    ensures { result ≡ position (λ b. b == 10) text.now }
+{
+    text.iter().position(|b| *b == b'\n')
+}
+
+// How many stand after the last.
+fn back_to_end(text: &[u8]) -> Option<usize>
+    ensures { result ≡ position (λ b. b == 10) (reverse text.now) }
+{
+    text.iter().rev().position(|b| *b == b'\n')
+}
 
 // Where the line of a place starts: past the last line end before the place, since a line end belongs to the line that it ends.
 fn start(text: &[u8], place: usize) -> usize
     requires { place ≤ length text.now }
     ensures { (result ≤ place) × (result ≡ start_of text.now place) }
 {
-    let mut from = place;
-    while 0 < from {
-        if text[from - 1] == b'\n' {
-            return from;
-        }
-        from -= 1;
+    match back_to_end(&text[..place]) {
+        Some(n) => place - n,
+        None => 0,
     }
-    from
 }
 
 // Where the line that starts at `from` ends: at the next line end, or at the text's end.
@@ -29,14 +39,10 @@ fn end(text: &[u8], from: usize) -> usize
     requires { from ≤ length text.now }
     ensures { (from ≤ result) × (result ≤ length text.now) × (result ≡ end_of text.now from) }
 {
-    let mut to = from;
-    while to < text.len() {
-        if text[to] == b'\n' {
-            return to;
-        }
-        to += 1;
+    match on_to_end(&text[from..]) {
+        Some(n) => from + n,
+        None => text.len(),
     }
-    to
 }
 
 // The line at a place of one text.

@@ -6,10 +6,8 @@ use Rattle.cycle_line.proofs.show.Goals as goal
 
 pub returns : goal.returns
 returns c =
-    let wide = c.wide in
     let number = c.number-k in
-    let wide2 = c.wide-2 in
     let next_number = c.next_number-m in
     let show-outputs = c.show_outputs-e in
     renamed (both number.ensures (both next_number.ensures (both show-outputs.ensures c.put-2.ensures)))
-    (shown_whole _ _ _ _ _ _ wide.ensures wide2.ensures (omega arith)) (omega arith)
+    (shown_whole _ _ _ _ _ _ c.from.ensures c.from-2.ensures (omega arith)) (omega arith)

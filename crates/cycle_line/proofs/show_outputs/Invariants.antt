@@ -7,7 +7,4 @@ use Rattle.figures.proofs.Bytes.{Rest}
 use Rattle.cycle_line.proofs.show_outputs.Given as goal
 
 abbrev pub invariant-loop-i : goal.invariant-loop-i
-invariant-loop-i l = (l.n ≡ ports_of l.plan) × (l.n ≤ 16) × Rest l.initial.out l.at (blanked (outputs_from l.plan l.outputs (ports_of l.plan) 0)) 336 l.out l.k (blanked (outputs_from l.plan l.outputs (l.n - l.i) l.i)) (21 * (l.n - l.i))
-
-abbrev pub decreases-loop-i : goal.decreases-loop-i
-decreases-loop-i l = l.n - l.i
+invariant-loop-i l = (l.i-end ≡ ports_of l.plan) × (l.i-end ≤ 16) × Rest l.initial.out l.at (blanked (outputs_from l.plan l.outputs (ports_of l.plan) 0)) 336 l.out l.k (blanked (outputs_from l.plan l.outputs (l.i-end - l.i) l.i)) (21 * (l.i-end - l.i))

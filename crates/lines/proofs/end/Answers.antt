@@ -1,18 +1,11 @@
--- `lines::end` meets its contract: going up, what is left of the line ends where the line does. Assumes nothing.
-use borrow.Author.Rules.{rules}
+-- `lines::end` meets its contract. Assumes nothing.
 use native.Mathlib.Omega.{arith}
-use mathlib.Core.Path.{refl, sym, ◌∙◌}
-use Rattle.lines.proofs.Laws.{end_here, end_next, end_over}
+use mathlib.Core.Path.{sym}
+use Rattle.lines.proofs.Laws.{end_at, end_over}
 use Rattle.lines.proofs.end.Goals as goal
 
-pub loop-to-init : goal.loop-to-init
-loop-to-init c = (omega arith, omega arith, refl)
+pub returns-in-Some : goal.returns-in-Some
+returns-in-Some c = let (h, e) = end_at c.args.text.now c.args.from c.in-Some.n c.requires (sym c.in-Some.ensures) in (omega arith, h, e)
 
-pub returns-then-text-to-eq10 : goal.returns-then-text-to-eq10
-returns-then-text-to-eq10 c = (omega arith, omega arith, sym (end_here c.args.text.now c.loop-to.to (omega arith) (search rules)) ∙ c.loop-to.invariant.2)
-
-pub loop-to-preserved : goal.loop-to-preserved
-loop-to-preserved c = (omega arith, omega arith, sym (end_next c.args.text.now c.loop-to.to (omega arith) (search rules)) ∙ c.loop-to.invariant.2)
-
-pub returns : goal.returns
-returns c = (omega arith, omega arith, sym (end_over c.args.text.now c.loop-to.to (omega arith)) ∙ c.loop-to.invariant.2)
+pub returns-in-None : goal.returns-in-None
+returns-in-None c = (c.requires, omega arith, end_over _ _ c.requires (sym c.in-None.ensures))

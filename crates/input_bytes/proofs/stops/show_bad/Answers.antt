@@ -1,17 +1,7 @@
 -- `show_bad` meets its contract. Assumes nothing.
 use native.Mathlib.Omega.{arith}
-use lib.ListN.{length-set}
-use Rattle.figures.proofs.Bytes.{bad_written}
+use Rattle.figures.proofs.Bytes.{bad_is, named}
 use Rattle.input_bytes.proofs.stops.show_bad.Goals as goal
 
-pub bounds-out-at-2 : goal.bounds-out-at-2
-bounds-out-at-2 c = simp length-set (omega arith)
-
-pub bounds-out-at-3 : goal.bounds-out-at-3
-bounds-out-at-3 c = simp length-set (omega arith)
-
-pub bounds-out-at-4 : goal.bounds-out-at-4
-bounds-out-at-4 c = simp length-set (omega arith)
-
 pub returns : goal.returns
-returns c = bad_written _ _
+returns c = named bad_is (omega arith) c.text.ensures

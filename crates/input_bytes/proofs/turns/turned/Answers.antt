@@ -1,25 +1,13 @@
 -- `turned` meets its contract. Assumes nothing.
-use mathlib.Core.Path.{sym, ◌∙◌}
-use native.Mathlib.Omega.{arith}
-use lib.Seq.{length-take-le}
-use Rattle.input_bytes.proofs.Ends.{turned_as}
+use mathlib.Core.Path.{ap}
+use mathlib.Core.List.{List}
+use Prim.Native.Nat.{ℕ}
+use Rattle.input_bytes.specs.Lines.{turned_of}
+use Rattle.input_bytes.proofs.Ends.{left_as, turned_as}
 use Rattle.input_bytes.proofs.turns.turned.Goals as goal
 
-pub slice_bounds-cycle-end : goal.slice_bounds-cycle-end
-slice_bounds-cycle-end c = sym (length-take-le _ _ (omega (arith, c.ports.ensures.1, c.place-n.ensures.0, c.requires.ports)))
-
-pub slice_bounds-cycle-end-3 : goal.slice_bounds-cycle-end-3
-slice_bounds-cycle-end-3 c = sym (length-take-le _ _ (omega (arith, c.cells-m.ensures.1, c.requires.cells)))
-
-pub slice_bounds-cycle-end-5 : goal.slice_bounds-cycle-end-5
-slice_bounds-cycle-end-5 c = sym (length-take-le _ _ (omega (arith, c.ports.ensures.1, c.place-n.ensures.0, c.requires.slots)))
-
-pub returns : goal.returns
-returns c =
-    let ports = c.ports in
-    let place = c.place-n in
-    let cells = c.cells-m in
-    let cycle = c.cycle-done in
-    let show = c.show-k in
-    turned_as _ _ _ _ _ _ _ _ _ _ _ _ _ _ _ _ (place.ensures.0 ∙ ports.ensures.0) cells.ensures.0 cycle.ensures show.ensures
-    c.less.ensures
+pub returns-clause-made : goal.returns-clause-made
+returns-clause-made c =
+    let t = c.args.tables.now in
+    left_as (turned_as c.args.mask c.planned-plan.result.now t.values t.outputs t.memory c.args.s _ _ _ _ _ _ _ c.ran-done.ensures c.show-k.ensures c.saturating_sub.ensures)
+    (ap (λ (l : List ℕ). turned_of c.args.s c.args.mask l t.values t.outputs t.memory) c.planned-plan.ensures)
