@@ -163,3 +163,15 @@ module _ (op p a : ℕ) (f : Place) (w o n : ℕ) (far r : Far) (is : r ≡ onwa
   pub lengths_kept : {m : ℕ} {l l' : List ℕ} → Kept m n l l' → Kept m r.rules l l'
   unfolding onward_of
   lengths_kept {m = m} {l = l} {l' = l'} k = subst (λ (y : ℕ). Kept m y l l') (sym (ap (λ (y : Far). y.rules) is)) k
+
+-- ---- the walk's tables after i items
+
+pub record Walked (items code₀ lengths₀ widths starts slots code lengths : List ℕ) (far : Far) (i : ℕ) : Type 0 where
+  pub many_widths : length widths ≡ 8192
+  pub many_starts : length starts ≡ 8192
+  pub long : length code ≡ length code₀
+  pub ends : length lengths ≡ length lengths₀
+  pub bounded : Bounded far i
+  pub coded : Kept 0 far.out code₀ code
+  pub ended : Kept 0 far.rules lengths₀ lengths
+  pub holds : Holds widths starts slots code lengths far (up_to items i)
