@@ -15,10 +15,11 @@ use settled::{
     AMOUNT, ARM, ASSIGN, BESIDE, BIG, BINARY, BITS, CELL, CHOICE, COPIES, EITHER, HELD, JOINED,
     PLAIN, RANGE, READ, RULED, SELECT, SELECTED, START, TYPED, UNARY, VAL, WRITE,
 };
-use size_walk::{Effect, Emits, Seen, ends};
+use size_walk::{Effect, Seen, ends};
 pub use steps::{effect_at, emitted, ended, hold, left, part, seen};
 
 // What a settled item does: by its operation, its place and its four operands.
+#[tactic(auto, unfolding(size_walk::specs::Effects::effect_of))]
 fn effect(op: u32, p: u32, a: u32, b: u32, c: u32, d: u32, seen: Seen) -> Effect
     requires { seen.cases ≤ most_settled }
     ensures { result ≡ effect_of op p a b c d seen }
@@ -46,6 +47,6 @@ fn effect(op: u32, p: u32, a: u32, b: u32, c: u32, d: u32, seen: Seen) -> Effect
         WRITE => size_walk::write(a, b, c, d, seen),
         TYPED => size_walk::typed(p, a, d, seen),
         VAL => size_walk::val(a, seen),
-        _ => ends(0, None, Emits::Nothing),
+        _ => ends(0, None, None),
     }
 }

@@ -3,14 +3,14 @@ ghost use Rattle.std.specs.Prelude.{◌≡◌, ◌&&◌, ◌||◌, List, ℕ, �
 ghost use Rattle.std.proofs.lemmas.List.Edits.{sets};
 ghost use Rattle.plan.specs.Waits.{top};
 ghost use Rattle.settled.specs.Form.{VAL, TYPED, RULED, most_settled};
-ghost use Rattle.size_walk.specs.Steps.{State, seen_of, one_if, emits_of, kept_in, held_of, ended_of, room, Holds};
+ghost use Rattle.size_walk.specs.Steps.{State, seen_of, width_on, start_on, emits_of, kept_in, held_of, ended_of, room, Holds};
 ghost use Rattle.laws.specs.Tables.{Kept};
 ghost use Rattle.size_walk.specs.Bounds.{effect_at};
 
 use crate::effect;
 use plan::Item;
 use settled::{RULED, TYPED, VAL};
-use size_walk::{Effect, Emits, Far, Seen};
+use size_walk::{Effect, Far, Seen};
 
 // The k-th number of item i.
 pub fn part(items: &[u32], i: usize, k: usize) -> u32
@@ -21,6 +21,7 @@ pub fn part(items: &[u32], i: usize, k: usize) -> u32
 }
 
 // What item i does.
+#[tactic(auto, unfolding(size_walk::specs::Bounds::effect_at))]
 pub fn effect_at(items: &[u32], i: usize, seen: Seen) -> Effect
     requires { (i < most_settled) × (6 * i + 6 ≤ length items.now) × (seen.cases ≤ most_settled) }
     ensures { result ≡ effect_at items.now i seen }
@@ -37,6 +38,7 @@ pub fn effect_at(items: &[u32], i: usize, seen: Seen) -> Effect
 }
 
 // The k-th of what waits from the latest on, 0 where fewer wait.
+#[tactic(auto, using(plan::proofs::Waits::top_at, plan::proofs::Waits::top_past))]
 fn last(l: &[u32], n: usize, k: usize) -> u32
     requires { n ≤ length l.now }
     ensures { result ≡ get_or (top l.now n) k 0 }
@@ -48,10 +50,10 @@ fn last(l: &[u32], n: usize, k: usize) -> u32
 fn slot(slots: &[u32], k: u32) -> u32
     ensures { result ≡ get_or slots.now k 0 }
 {
-    let q = plan::place(k);
-    if q < slots.len() { slots[q] } else { 0 }
+    slots.get(plan::place(k)).copied().unwrap_or(0)
 }
 
+#[tactic(auto, unfolding(size_walk::specs::Steps::seen_of))]
 pub fn seen(widths: &[u32], starts: &[u32], slots: &[u32], k: u32, far: Far) -> Seen
     requires { (far.waits ≤ length widths.now) × (far.waits ≤ length starts.now) }
     ensures cases { result.cases ≡ far.cases }
@@ -72,44 +74,41 @@ pub fn seen(widths: &[u32], starts: &[u32], slots: &[u32], k: u32, far: Far) -> 
     }
 }
 
-// So many less, none where there are fewer.
-fn without(n: usize, k: usize) -> usize
-    ensures { result ≡ n - k }
-{
-    if k <= n { n - k } else { 0 }
-}
-
 // How many wait after an item: it takes some and leaves one or none.
 pub fn left(e: Effect, n: usize, widths: &mut [u32], starts: &mut [u32]) -> usize
     requires { (n < length widths.old) × (n < length starts.old) }
     ensures few { result ≤ n + 1 }
-    ensures widths { top widths.new result ≡ one_if e.leaves e.width (drop e.takes (top widths.old n)) }
-    ensures starts { top starts.new result ≡ one_if e.leaves e.start (drop e.takes (top starts.old n)) }
+    ensures widths { top widths.new result ≡ width_on e.leaves (drop e.takes (top widths.old n)) }
+    ensures starts { top starts.new result ≡ start_on e.leaves (drop e.takes (top starts.old n)) }
 {
-    let q = without(n, e.takes);
-    if e.leaves {
-        widths[q] = e.width;
-        starts[q] = e.start;
-        return q + 1;
+    let q = n.saturating_sub(e.takes);
+    match e.leaves {
+        Some(w) => {
+            widths[q] = w.width;
+            starts[q] = w.start;
+            q + 1
+        }
+        None => q,
     }
-    q
 }
 
 // The code with what an item adds to it: how long it is.
-pub fn emitted(emits: Emits, code: &mut [u32], out: usize) -> usize
+#[tactic(auto, unfolding(size_walk::specs::Steps::emits_of))]
+pub fn emitted(emits: Option<Item>, code: &mut [u32], out: usize) -> usize
     requires { out + 4 ≤ length code.old }
     ensures { (result ≡ out + length (emits_of emits)) × (code.new ≡ sets code.old out (emits_of emits)) }
 {
     match emits {
-        Emits::Nothing => out,
-        Emits::Adds(item) => {
+        Some(item) => {
             plan::put(item, code, out);
             out + 4
         }
+        None => out,
     }
 }
 
 // The width that an item keeps.
+#[tactic(auto, unfolding(size_walk::specs::Steps::kept_in))]
 fn kept(item: Item) -> u32
     ensures { result ≡ kept_in item }
 {
@@ -120,30 +119,30 @@ fn kept(item: Item) -> u32
 }
 
 // The width that a `val` keeps, in its slot.
-pub fn hold(op: u32, k: u32, emits: Emits, slots: &mut [u32])
+#[tactic(auto, unfolding(size_walk::specs::Steps::held_of))]
+pub fn hold(op: u32, k: u32, emits: Option<Item>, slots: &mut [u32])
     ensures { slots.new ≡ held_of (eqb op VAL || eqb op TYPED) k emits slots.old }
 {
-    match emits {
-        Emits::Nothing => {}
-        Emits::Adds(item) => {
-            let q = plan::place(k);
-            if ((op == VAL) | (op == TYPED)) & (q < slots.len()) {
-                slots[q] = kept(item);
-            }
+    if let Some(item) = emits {
+        let q = plan::place(k);
+        if matches!(op, VAL | TYPED) && q < slots.len() {
+            slots[q] = kept(item);
         }
     }
 }
 
 // A rule ends: the length of its code.
+#[tactic(auto, unfolding(size_walk::specs::Steps::ended_of))]
 pub fn ended(op: u32, lengths: &mut [u32], rules: usize, long: usize) -> usize
     requires { (rules ≤ room) × (length lengths.old ≡ room) × (long < 4294967296) }
     ensures few { result ≤ room }
     ensures kept { Kept rules result lengths.old lengths.new }
     ensures lengths { take result lengths.new ≡ ended_of (eqb op RULED && ltb rules room) long (take rules lengths.old) }
 {
-    if (op == RULED) & (rules < lengths.len()) {
+    if op == RULED && rules < lengths.len() {
         lengths[rules] = long as u32;
-        return rules + 1;
+        rules + 1
+    } else {
+        rules
     }
-    rules
 }

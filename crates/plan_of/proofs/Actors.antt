@@ -21,7 +21,7 @@ use Rattle.plan_of.proofs.Rules.{FineStatement, vals_in}
 use Rattle.settled.specs.Form.{six, RULED}
 use Rattle.settled.specs.Settled.{settled_entry, settled_rule, settled_group, settled_signed, settled_memory, settled_of}
 use Rattle.size_walk.specs.Effects.{sooner_of, ends_of, effect_of}
-use Rattle.size_walk.specs.Steps.{State, seen_of, one_if, emits_of, held_of, around_of, pick, ended_of, step_of, begin}
+use Rattle.size_walk.specs.Steps.{State, seen_of, width_on, start_on, emits_of, held_of, around_of, pick, ended_of, step_of, begin}
 use Rattle.plan_of.proofs.Firsts.{told, told_after}
 use Rattle.plan_of.proofs.Walks.{Goes, goes_both, goes_six}
 use Rattle.plan_of.proofs.Left.{coded}
@@ -36,23 +36,23 @@ Idle o p a b c d = (st : State) → step_of st o p a b c d ≡ done st (told [])
 
 module _ (p a b c d : ℕ) where
   idle_present : Idle 38 p a b c d
-  unfolding step_of effect_of seen_of ends_of one_if emits_of held_of around_of pick ended_of sooner_of earliest place_told
+  unfolding step_of effect_of seen_of ends_of width_on start_on emits_of held_of around_of pick ended_of sooner_of earliest place_told
   idle_present st = refl
 
   idle_rule : Idle 39 p a b c d
-  unfolding step_of effect_of seen_of ends_of one_if emits_of held_of around_of pick ended_of sooner_of earliest place_told
+  unfolding step_of effect_of seen_of ends_of width_on start_on emits_of held_of around_of pick ended_of sooner_of earliest place_told
   idle_rule st = refl
 
   idle_or : Idle 41 p a b c d
-  unfolding step_of effect_of seen_of ends_of one_if emits_of held_of around_of pick ended_of sooner_of earliest place_told
+  unfolding step_of effect_of seen_of ends_of width_on start_on emits_of held_of around_of pick ended_of sooner_of earliest place_told
   idle_or st = refl
 
   idle_memory : Idle 44 p a b c d
-  unfolding step_of effect_of seen_of ends_of one_if emits_of held_of around_of pick ended_of sooner_of earliest place_told
+  unfolding step_of effect_of seen_of ends_of width_on start_on emits_of held_of around_of pick ended_of sooner_of earliest place_told
   idle_memory st = refl
 
   idle_signed : Idle 46 p a b c d
-  unfolding step_of effect_of seen_of ends_of one_if emits_of held_of around_of pick ended_of sooner_of earliest place_told
+  unfolding step_of effect_of seen_of ends_of width_on start_on emits_of held_of around_of pick ended_of sooner_of earliest place_told
   idle_signed st = refl
 
 -- nothing is done by some items
@@ -112,7 +112,7 @@ module _ (s : Setting) (ms : List (List ℕ)) (ports : (n : List ℕ) → port_w
       }
 
   ruled_does : (st : State) (f c sl : List ℕ) (br sp : ℕ) → step_of (done st (told f) c sl br sp) RULED 0 0 0 0 0 ≡ ruled st f c sl br sp
-  unfolding ruled step_of effect_of seen_of ends_of one_if emits_of held_of around_of pick sooner_of
+  unfolding ruled step_of effect_of seen_of ends_of width_on start_on emits_of held_of around_of pick sooner_of
   ruled_does st f c sl br sp = refl
 
   ended_one : (l : List ℕ) (n : ℕ) → length l + 1 ≤ 32 → ended_of (ltb (length l) 32) n l ≡ l ++ (n ∷ [])

@@ -19,9 +19,8 @@ use Rattle.plan_of.specs.PlanOf.{width_of}
 use Rattle.plan_of.specs.Formed.{whole}
 use Rattle.plan_of.proofs.Extents.{IsWide}
 use Rattle.settled.specs.Form.{six, ASSIGN, WRITE, VAL, TYPED}
-use Rattle.size_walk.specs.declared.Emits.TheVariants.{Adds}
 use Rattle.size_walk.specs.Effects.{sooner_of, has, ends_of, unless_at, fitted_at, assign_effect, write_effect, val_effect, kept_of, typed_effect, effect_of}
-use Rattle.size_walk.specs.Steps.{State, seen_of, one_if, emits_of, kept_in, held_of, around_of, pick, ended_of, step_of}
+use Rattle.size_walk.specs.Steps.{State, seen_of, width_on, start_on, emits_of, kept_in, held_of, around_of, pick, ended_of, step_of}
 use Rattle.plan_of.proofs.Firsts.{told, told_both, told_after, sooner_assoc, sooner_comm}
 use Rattle.plan_of.proofs.Walks.{Goes, goes_both, goes_six, after}
 use Rattle.plan_of.proofs.Left.{shape, Small, coded, Left, more, both_code}
@@ -58,7 +57,7 @@ module _ (st : State) (q p k w : ℕ) (items : List ℕ) (is : List Item) where
   assigned b f c br sp = done (done st f c st.slots br sp) (unless_at b q) (c ++ (12 ∷ k ∷ 0 ∷ 0 ∷ [])) st.slots br sp
 
   assign_does : (v : ℕ) (l c : List ℕ) (br sp : ℕ) → step_of (after st v q l c br sp) ASSIGN p k 0 0 w ≡ assigned (not (has v) || leb v w) (told l) c br sp
-  unfolding assigned step_of effect_of seen_of assign_effect fitted_at ends_of one_if emits_of held_of around_of pick ended_of
+  unfolding assigned step_of effect_of seen_of assign_effect fitted_at ends_of width_on start_on emits_of held_of around_of pick ended_of
   assign_does v l c br sp = refl
 
   pub end_assign : (x : Extent) → Small x → Left whole x q items is st → Ends (told (faults_of (fit x w q))) (items ++ six ASSIGN p k 0 0 w) (is ++ (Assign k ∷ [])) (IsWide (fit x w q)) st.slots st
@@ -69,7 +68,7 @@ module _ (st : State) (q p k w : ℕ) (items : List ℕ) (is : List Item) where
       step b e = assign_does v [] r.c r.br r.sp ∙ ap₂ (λ (x y : Bool). assigned (not x || y) None r.c r.br r.sp) (le-leb v 64 h) e
 
       go : (b : Bool) → leb v w ≡ b → Ends (told (faults_of (elim b [ true ↦ wide w | false ↦ faulty (q ∷ []) ]))) (items ++ six ASSIGN p k 0 0 w) (is ++ (Assign k ∷ [])) (IsWide (elim b [ true ↦ wide w | false ↦ faulty (q ∷ []) ])) st.slots st
-      go true e = record { c = r.c ++ (12 ∷ k ∷ 0 ∷ 0 ∷ []); br = r.br; sp = r.sp; goes = goes_both r.goes (goes_six ASSIGN p k 0 0 w (step true e)); code = λ y. more r.c st.code is (Assign k ∷ []) (Adds (Assign k)) (r.code tt) refl }
+      go true e = record { c = r.c ++ (12 ∷ k ∷ 0 ∷ 0 ∷ []); br = r.br; sp = r.sp; goes = goes_both r.goes (goes_six ASSIGN p k 0 0 w (step true e)); code = λ y. more r.c st.code is (Assign k ∷ []) (Some (Assign k)) (r.code tt) refl }
       go false e = record { c = r.c ++ (12 ∷ k ∷ 0 ∷ 0 ∷ []); br = r.br; sp = r.sp; goes = goes_both r.goes (goes_six ASSIGN p k 0 0 w (step false e)); code = λ y. absurd y }
   end_assign (faulty l) h r =
       record { c = r.c ++ (12 ∷ k ∷ 0 ∷ 0 ∷ []); br = r.br; sp = r.sp; goes = goes_both r.goes (goes_six ASSIGN p k 0 0 w (assign_does 99 l r.c r.br r.sp)); code = λ y. absurd y }
@@ -82,7 +81,7 @@ module _ (st : State) (q s p m f n w : ℕ) (items others : List ℕ) (is js : L
 
   write_does : (u v : ℕ) (k c0 : List ℕ) (br0 sp0 : ℕ) (l c : List ℕ) (br sp : ℕ)
       → step_of (after (after st u q k c0 br0 sp0) v s l c br sp) WRITE p m f n w ≡ written (not (has v) || leb v w) (told (k ++ l)) c br sp
-  unfolding written step_of effect_of seen_of write_effect fitted_at ends_of one_if emits_of held_of around_of pick ended_of
+  unfolding written step_of effect_of seen_of write_effect fitted_at ends_of width_on start_on emits_of held_of around_of pick ended_of
   write_does u v k c0 br0 sp0 l c br sp =
       ap (λ (e : Place). record { widths = st.widths; starts = st.starts; slots = st.slots; code = c ++ (13 ∷ m ∷ f ∷ n ∷ []); lengths = st.lengths; first = sooner_of (unless_at (not (has v) || leb v w) s) e; breadth = br; start = sp; cases = st.cases; rule = st.rule })
       (told_after k l st.first)
@@ -110,7 +109,7 @@ module _ (st : State) (q s p m f n w : ℕ) (items others : List ℕ) (is js : L
             br = z.br;
             sp = z.sp;
             goes = goes_both r.goes (goes_both z.goes (goes_six WRITE p m f n w (step b e ∙ joins b)));
-            code = λ y. both_code st is js (Write m f n ∷ []) (Adds (Write m f n)) r.c z.c (r.code y.0) (z.code tt) refl;
+            code = λ y. both_code st is js (Write m f n ∷ []) (Some (Write m f n)) r.c z.c (r.code y.0) (z.code tt) refl;
           }
   end_write x (faulty l) h r z =
       record {
@@ -125,12 +124,12 @@ module _ (st : State) (q s p m f n w : ℕ) (items others : List ℕ) (is js : L
 
 module _ (st : State) (q p k : ℕ) (items : List ℕ) (is : List Item) where
   val_does : (v : ℕ) (l c : List ℕ) (br sp : ℕ) → step_of (after st v q l c br sp) VAL p k 0 0 0 ≡ done st (told l) (c ++ (11 ∷ k ∷ v ∷ 0 ∷ [])) (set st.slots k v) br sp
-  unfolding step_of effect_of seen_of val_effect ends_of one_if emits_of held_of around_of pick ended_of sooner_of kept_in
+  unfolding step_of effect_of seen_of val_effect ends_of width_on start_on emits_of held_of around_of pick ended_of sooner_of kept_in
   val_does v l c br sp = refl
 
   pub end_val : (x : Extent) → Left whole x q items is st → Ends (told (faults_of x)) (items ++ six VAL p k 0 0 0) (is ++ (Keep k (width_of x) ∷ [])) (IsWide x) (set st.slots k (shape whole x)) st
   unfolding shape width_of emits_of each
-  end_val (wide v) r = record { c = r.c ++ (11 ∷ k ∷ v ∷ 0 ∷ []); br = r.br; sp = r.sp; goes = goes_both r.goes (goes_six VAL p k 0 0 0 (val_does v (faults_of (wide v)) r.c r.br r.sp)); code = λ y. more r.c st.code is (Keep k v ∷ []) (Adds (Keep k v)) (r.code tt) refl }
+  end_val (wide v) r = record { c = r.c ++ (11 ∷ k ∷ v ∷ 0 ∷ []); br = r.br; sp = r.sp; goes = goes_both r.goes (goes_six VAL p k 0 0 0 (val_does v (faults_of (wide v)) r.c r.br r.sp)); code = λ y. more r.c st.code is (Keep k v ∷ []) (Some (Keep k v)) (r.code tt) refl }
   end_val (faulty l) r = record { c = r.c ++ (11 ∷ k ∷ 99 ∷ 0 ∷ []); br = r.br; sp = r.sp; goes = goes_both r.goes (goes_six VAL p k 0 0 0 (val_does 99 (faults_of (faulty l)) r.c r.br r.sp)); code = λ y. absurd y }
 
   -- ---- a `val` with a type: its target, 64 at most
@@ -149,7 +148,7 @@ module _ (st : State) (q p k : ℕ) (items : List ℕ) (is : List Item) where
     kept_pick false v = refl
 
     typed_does : (v : ℕ) (l c : List ℕ) (br sp : ℕ) → step_of (after st v q l c br sp) TYPED p k 0 0 w ≡ typed (has w) (not (has v) || leb v w) (has w && leb v w) (told l) c br sp
-    unfolding typed step_of effect_of seen_of typed_effect fitted_at ends_of one_if emits_of held_of around_of pick ended_of kept_of kept_in
+    unfolding typed step_of effect_of seen_of typed_effect fitted_at ends_of width_on start_on emits_of held_of around_of pick ended_of kept_of kept_in
     typed_does v l c br sp =
         ap (λ (n : ℕ). record { widths = st.widths; starts = st.starts; slots = set st.slots k n; code = c ++ (11 ∷ k ∷ n ∷ 0 ∷ []); lengths = st.lengths; first = sooner_of (sooner_of (unless_at (has w) p) (unless_at (not (has v) || leb v w) q)) (sooner_of (told l) st.first); breadth = br; start = sp; cases = st.cases; rule = st.rule })
         (kept_pick (has w && leb v w) (seen_of (after st v q l c br sp) k))
@@ -184,7 +183,7 @@ module _ (st : State) (q p k : ℕ) (items : List ℕ) (is : List Item) where
     -- the code of what has a width
     aimed_code : (a b : Bool) (c : List ℕ) → IsWide (aim a b) → c ≡ st.code ++ coded is → c ++ (11 ∷ k ∷ shape whole (aim a b) ∷ 0 ∷ []) ≡ st.code ++ coded (is ++ (Keep k (width_of (aim a b)) ∷ []))
     unfolding two_parts shape width_of emits_of each
-    aimed_code true true c y e = more c st.code is (Keep k w ∷ []) (Adds (Keep k w)) e refl
+    aimed_code true true c y e = more c st.code is (Keep k w ∷ []) (Some (Keep k w)) e refl
     aimed_code true false c y e = absurd y
     aimed_code false true c y e = absurd y
     aimed_code false false c y e = absurd y

@@ -29,7 +29,7 @@ use Rattle.plan_of.proofs.Extents.{IsWide}
 use Rattle.plan_of.proofs.Checks.{plain_small}
 use Rattle.settled.specs.Form.{six}
 use Rattle.settled.specs.Settled.{placed, settled_breadth, settled_amount, settled_cell, settled_port, settled_read, settled}
-use Rattle.size_walk.specs.declared.Emits.TheVariants.{Adds}
+use Rattle.std.specs.Prelude.{Some}
 use Rattle.size_walk.specs.Effects.{has, unary_wide, binary_wide, before_width, between_width}
 use Rattle.size_walk.specs.Steps.{State, emits_of}
 use Rattle.plan_of.proofs.Walks.{after}
@@ -137,7 +137,7 @@ binary_wide_law NotOr m n = refl
 binary_wide_law Both m n = refl
 binary_wide_law Either m n = refl
 
-unary_coded : (u : Unary) (w : ℕ) → Emitted (Adds (unary_item (unary_number u) w)) (Before u w ∷ [])
+unary_coded : (u : Unary) (w : ℕ) → Emitted (Some (unary_item (unary_number u) w)) (Before u w ∷ [])
 unfolding emits_of each unary_item
 unary_coded Invert w = refl
 unary_coded Plus w = refl
@@ -149,7 +149,7 @@ unary_coded NotAny w = refl
 unary_coded Odd w = refl
 unary_coded NotOdd w = refl
 
-binary_coded : (o : Binary) (m n : ℕ) → Emitted (Adds (binary_item (binary_number o) m n)) (Between o m n ∷ [])
+binary_coded : (o : Binary) (m n : ℕ) → Emitted (Some (binary_item (binary_number o) m n)) (Between o m n ∷ [])
 unfolding emits_of each binary_item
 binary_coded Multiply m n = refl
 binary_coded Divide m n = refl
@@ -213,7 +213,7 @@ module _ (s : Setting) where
   small_positions p w none none h = tt
 
   -- where both are inside, they are the numbers that the plan has
-  position_code : (p w : ℕ) (i j : Option ℕ) → IsWide (positions s p w i j) → Emitted (Adds (Range (placed i) (placed j))) (Range (position_in i) (position_in j) ∷ [])
+  position_code : (p w : ℕ) (i j : Option ℕ) → IsWide (positions s p w i j) → Emitted (Some (Range (placed i) (placed j))) (Range (position_in i) (position_in j) ∷ [])
   unfolding positions placed position_in emits_of each
   position_code p w (some i) (some j) h = refl
   position_code p w (some i) none h = absurd h
@@ -350,7 +350,7 @@ module _ (s : Setting) where
         subst (λ (x : Extent). Left whole x (start e) (items e ++ six 21 p (placed i) (placed j) 0 0) (code s lets st.cases e ++ (Range (position_in i) (position_in j) ∷ [])) st) same
         (left_1 st (start e) (range_over st (start e) p (placed i) (placed j)) (items e) (code s lets st.cases e) (Range (position_in i) (position_in j) ∷ []) (X e) g (λ y. inside_code (X e) (subst IsWide same y)) r)
       where
-        inside_code : (x : Extent) → IsWide (one_part x (λ w. positions s p w i j)) → Emitted (Adds (Range (placed i) (placed j))) (Range (position_in i) (position_in j) ∷ [])
+        inside_code : (x : Extent) → IsWide (one_part x (λ w. positions s p w i j)) → Emitted (Some (Range (placed i) (placed j))) (Range (position_in i) (position_in j) ∷ [])
         inside_code (wide w) y = position_code p w i j y
         inside_code (faulty l) y = absurd y
 

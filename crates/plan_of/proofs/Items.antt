@@ -20,9 +20,9 @@ use Rattle.plan_of.specs.PlanOf.{constant}
 use Rattle.plan_of.specs.Formed.{whole}
 use Rattle.settled.specs.Form.{six, BITS, BIG, AMOUNT, PLAIN, COPIES, READ, CELL, HELD, RANGE, UNARY, BINARY, CHOICE, EITHER, ARM}
 use Rattle.settled.specs.Settled.{amount}
-use Rattle.size_walk.specs.declared.Emits.TheVariants.{Adds}
+use Rattle.std.specs.Prelude.{Some}
 use Rattle.size_walk.specs.Effects.{sooner_of, has, gives_of, ends_of, tested_of, unary_wide, binary_wide, big_effect, sized_effect, plain_effect, read_effect, used_effect, copies_effect, cell_effect, range_effect, unary_effect, binary_effect, choice_effect, arm_effect, effect_of}
-use Rattle.size_walk.specs.Steps.{State, seen_of, one_if, emits_of, held_of, around_of, pick, ended_of, step_of}
+use Rattle.size_walk.specs.Steps.{State, seen_of, width_on, start_on, emits_of, held_of, around_of, pick, ended_of, step_of}
 use Rattle.plan_of.proofs.Walks.{goes_both, goes_six, after}
 use Rattle.plan_of.proofs.Left.{shape, coded, Left, tried, applied, through_1, Over1, through_2, Over2}
 use Rattle.plan_of.proofs.Parts.{chooses, Over3}
@@ -30,28 +30,28 @@ use Rattle.plan_of.proofs.Parts.{chooses, Over3}
 -- ---- over one, two and three expressions
 
 module _ (st : State) (q : ℕ) where
-  pub copies_over : (p n : ℕ) → Over1 st q COPIES p n 0 0 0 p p (λ w. leb (n * w) 64) (λ w. n * w) (λ w. Adds (Copies n w))
+  pub copies_over : (p n : ℕ) → Over1 st q COPIES p n 0 0 0 p p (λ w. leb (n * w) 64) (λ w. n * w) (λ w. Some (Copies n w))
   unfolding through_1 applied step_of effect_of seen_of copies_effect around_of pick ended_of held_of
   copies_over p n = record { does = λ x l k br sp. refl }
 
-  pub cell_over : (p m f z w : ℕ) → Over1 st q CELL p m f z w 0 p (λ x. true) (λ x. w) (λ x. Adds (Cell m f z))
+  pub cell_over : (p m f z w : ℕ) → Over1 st q CELL p m f z w 0 p (λ x. true) (λ x. w) (λ x. Some (Cell m f z))
   unfolding through_1 applied step_of effect_of seen_of cell_effect tested_of around_of pick ended_of held_of
   cell_over p m f z w = record { does = λ x l k br sp. refl }
 
-  pub range_over : (p i j : ℕ) → Over1 st q RANGE p i j 0 0 p q (λ x. ltb i x && ltb j x) (λ x. range_width i j) (λ x. Adds (Range i j))
+  pub range_over : (p i j : ℕ) → Over1 st q RANGE p i j 0 0 p q (λ x. ltb i x && ltb j x) (λ x. range_width i j) (λ x. Some (Range i j))
   unfolding through_1 applied step_of effect_of seen_of range_effect around_of pick ended_of held_of
   range_over p i j = record { does = λ x l k br sp. refl }
 
-  pub unary_over : (p o : ℕ) → Over1 st q UNARY p o 0 0 0 0 p (λ x. true) (λ x. unary_wide o x) (λ x. Adds (unary_item o x))
+  pub unary_over : (p o : ℕ) → Over1 st q UNARY p o 0 0 0 0 p (λ x. true) (λ x. unary_wide o x) (λ x. Some (unary_item o x))
   unfolding through_1 applied step_of effect_of seen_of unary_effect tested_of around_of pick ended_of held_of
   unary_over p o = record { does = λ x l k br sp. refl }
 
   module _ (s : ℕ) where
-    pub binary_over : (o : ℕ) → Over2 st q s BINARY 0 o 0 0 0 q q (λ x y. has (binary_wide o x y)) (λ x y. binary_wide o x y) (λ x y. Adds (binary_item o x y))
+    pub binary_over : (o : ℕ) → Over2 st q s BINARY 0 o 0 0 0 q q (λ x y. has (binary_wide o x y)) (λ x y. binary_wide o x y) (λ x y. Some (binary_item o x y))
     unfolding through_2 applied step_of effect_of seen_of binary_effect around_of pick ended_of held_of
     binary_over o = record { does = λ x y k c0 br0 sp0 l h br sp. refl }
 
-    pub arm_over : (p n : ℕ) → Over2 st q s ARM p n 0 0 0 0 p (λ x y. true) (λ x y. max x y) (λ x y. Adds (Arm n (15 + st.cases)))
+    pub arm_over : (p n : ℕ) → Over2 st q s ARM p n 0 0 0 0 p (λ x y. true) (λ x y. max x y) (λ x y. Some (Arm n (15 + st.cases)))
     unfolding through_2 applied step_of effect_of seen_of arm_effect tested_of around_of pick ended_of held_of
     arm_over p n = record { does = λ x y k c0 br0 sp0 l h br sp. refl }
 
@@ -68,7 +68,7 @@ module _ (st : State) (q : ℕ) where
 
 module _ (st : State) (p : ℕ) where
   pub left_plain : (v : ℕ) → v ≤ 4_294_967_295 → Left whole (wide (plain_width v)) p (six PLAIN p v 0 0 0) (constant (plain_width v) v) st
-  unfolding step_of effect_of seen_of plain_effect gives_of one_if emits_of held_of around_of pick ended_of sooner_of earliest place_told shape faults_of constant each
+  unfolding step_of effect_of seen_of plain_effect gives_of width_on start_on emits_of held_of around_of pick ended_of sooner_of earliest place_told shape faults_of constant each
   left_plain v h =
       let l : v < 2 ^ 32 = omega arith in
       record {
@@ -80,11 +80,11 @@ module _ (st : State) (p : ℕ) where
       }
 
   pub left_port : (k w : ℕ) → Left whole (wide w) p (six READ p k 0 0 w) (Port k ∷ []) st
-  unfolding step_of effect_of seen_of read_effect gives_of one_if emits_of held_of around_of pick ended_of sooner_of earliest place_told shape faults_of each
+  unfolding step_of effect_of seen_of read_effect gives_of width_on start_on emits_of held_of around_of pick ended_of sooner_of earliest place_told shape faults_of each
   left_port k w = record { c = st.code ++ (1 ∷ k ∷ 0 ∷ 0 ∷ []); br = st.breadth; sp = st.start; goes = goes_six READ p k 0 0 w refl; code = λ y. refl }
 
   pub left_held : (k : ℕ) (x : Extent) → get_or st.slots k 0 ≡ shape whole x → Left whole (used x) p (six HELD p k 0 0 0) (Kept k ∷ []) st
-  unfolding step_of effect_of seen_of used_effect gives_of one_if emits_of held_of around_of pick ended_of sooner_of earliest place_told shape faults_of used each
+  unfolding step_of effect_of seen_of used_effect gives_of width_on start_on emits_of held_of around_of pick ended_of sooner_of earliest place_told shape faults_of used each
   left_held k (wide w) e =
       record { c = st.code ++ (2 ∷ k ∷ 0 ∷ 0 ∷ []); br = st.breadth; sp = st.start; goes = goes_six HELD p k 0 0 0 (ap (λ (n : ℕ). after st n p [] (st.code ++ (2 ∷ k ∷ 0 ∷ 0 ∷ [])) st.breadth st.start) e); code = λ y. refl }
   left_held k (faulty l) e =
@@ -123,20 +123,20 @@ module _ (st : State) (p : ℕ) where
       }
 
   bits_does : (w : ℕ) → step_of st BITS p w 0 0 0 ≡ widened w
-  unfolding step_of effect_of seen_of ends_of one_if emits_of held_of around_of pick ended_of sooner_of
+  unfolding step_of effect_of seen_of ends_of width_on start_on emits_of held_of around_of pick ended_of sooner_of
   bits_does w = refl
 
-  amount_does : (w q lo hi : ℕ) → step_of (widened w) AMOUNT q lo hi 0 0 ≡ applied (widened w) (tested_of (leb w 64 && ltb (lo + hi * 2 ^ 32) (2 ^ w)) 0 w p p (Adds (Const w lo hi)))
+  amount_does : (w q lo hi : ℕ) → step_of (widened w) AMOUNT q lo hi 0 0 ≡ applied (widened w) (tested_of (leb w 64 && ltb (lo + hi * 2 ^ 32) (2 ^ w)) 0 w p p (Some (Const w lo hi)))
   unfolding applied step_of effect_of seen_of sized_effect has around_of pick ended_of held_of
   amount_does w q lo hi = refl
 
-  amount_tried : (t : Bool) (w lo hi : ℕ) → applied (widened w) (tested_of t 0 w p p (Adds (Const w lo hi))) ≡ after st (shape whole (tried t w p)) p (faults_of (tried t w p)) ((st.code ++ []) ++ (0 ∷ w ∷ lo ∷ hi ∷ [])) w p
-  unfolding applied tested_of gives_of one_if emits_of sooner_of earliest place_told shape faults_of
+  amount_tried : (t : Bool) (w lo hi : ℕ) → applied (widened w) (tested_of t 0 w p p (Some (Const w lo hi))) ≡ after st (shape whole (tried t w p)) p (faults_of (tried t w p)) ((st.code ++ []) ++ (0 ∷ w ∷ lo ∷ hi ∷ [])) w p
+  unfolding applied tested_of gives_of width_on start_on emits_of sooner_of earliest place_told shape faults_of
   amount_tried true w lo hi = refl
   amount_tried false w lo hi = refl
 
   big_does : (w q : ℕ) → step_of (widened w) BIG q 0 0 0 0 ≡ after st 99 p (p ∷ []) ((st.code ++ []) ++ []) w p
-  unfolding step_of effect_of seen_of big_effect tested_of gives_of one_if emits_of sooner_of earliest place_told around_of pick ended_of held_of
+  unfolding step_of effect_of seen_of big_effect tested_of gives_of width_on start_on emits_of sooner_of earliest place_told around_of pick ended_of held_of
   big_does w q = refl
 
   constant_code : (w v : ℕ) → st.code ++ (0 ∷ w ∷ (v % 2 ^ 32) ∷ (v / 2 ^ 32) ∷ []) ≡ st.code ++ coded (constant w v)
@@ -162,7 +162,7 @@ module _ (st : State) (p : ℕ) where
             br = w;
             sp = p;
             goes = goes_both (goes_six BITS p w 0 0 0 (bits_does w)) (goes_six AMOUNT q (v % 2 ^ 32) (v / 2 ^ 32) 0 0 (amount_does w q (v % 2 ^ 32) (v / 2 ^ 32)
-                ∙ ap (λ (n : ℕ). applied (widened w) (tested_of (leb w 64 && ltb n (2 ^ w)) 0 w p p (Adds (Const w (v % 2 ^ 32) (v / 2 ^ 32))))) halves
+                ∙ ap (λ (n : ℕ). applied (widened w) (tested_of (leb w 64 && ltb n (2 ^ w)) 0 w p p (Some (Const w (v % 2 ^ 32) (v / 2 ^ 32))))) halves
                 ∙ amount_tried (leb w 64 && ltb v (2 ^ w)) w (v % 2 ^ 32) (v / 2 ^ 32)));
             code = λ y. ap (λ (l : List ℕ). l ++ (0 ∷ w ∷ (v % 2 ^ 32) ∷ (v / 2 ^ 32) ∷ [])) (append-nil st.code) ∙ constant_code w v;
           })

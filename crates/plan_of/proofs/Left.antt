@@ -19,9 +19,9 @@ use Rattle.plan_of.specs.Formed.{Kind, whole, parts, arms}
 use Rattle.plan_of.proofs.Extents.{IsWide}
 use Rattle.settled.specs.Form.{six}
 use Rattle.size_walk.specs.declared.Effect.{Effect}
-use Rattle.size_walk.specs.declared.Emits.{Emits}
+use Rattle.size_walk.specs.Effects.{Emits}
 use Rattle.size_walk.specs.Effects.{sooner_of, has, gives_of, faulty_of, tested_of, through_of}
-use Rattle.size_walk.specs.Steps.{State, one_if, emits_of, step_of}
+use Rattle.size_walk.specs.Steps.{State, width_on, start_on, emits_of, step_of}
 use Rattle.plan_of.proofs.Firsts.{told_after}
 use Rattle.plan_of.proofs.Walks.{Goes, goes_both, goes_six, after}
 
@@ -59,8 +59,8 @@ tried b w p = elim b [ true ↦ wide w | false ↦ faulty (p ∷ []) ]
 unfoldable pub applied : State → Effect → State
 applied s e =
     record {
-      widths = one_if e.leaves e.width (drop e.takes s.widths);
-      starts = one_if e.leaves e.start (drop e.takes s.starts);
+      widths = width_on e.leaves (drop e.takes s.widths);
+      starts = start_on e.leaves (drop e.takes s.starts);
       slots = s.slots;
       code = s.code ++ emits_of e.emits;
       lengths = s.lengths;
@@ -86,12 +86,12 @@ module _ (st : State) (q : ℕ) where
   through_1 b t x w p at e l c br sp = applied (after st x q l c br sp) (through_of b 1 p e (tested_of t 1 w p at e))
 
   some_1 : (t : Bool) (x w p at : ℕ) (e : Emits) (c : List ℕ) (br sp : ℕ) → through_1 true t x w p at e [] c br sp ≡ after st (shape whole (tried t w at)) p (faults_of (tried t w at)) (c ++ emits_of e) br sp
-  unfolding through_1 applied through_of tested_of gives_of one_if sooner_of shape faults_of earliest place_told
+  unfolding through_1 applied through_of tested_of gives_of width_on start_on sooner_of shape faults_of earliest place_told
   some_1 true x w p at e c br sp = refl
   some_1 false x w p at e c br sp = refl
 
   none_1 : (t : Bool) (x w p at : ℕ) (e : Emits) (l c : List ℕ) (br sp : ℕ) → through_1 false t x w p at e l c br sp ≡ after st 99 p l (c ++ emits_of e) br sp
-  unfolding through_1 applied through_of faulty_of gives_of one_if sooner_of
+  unfolding through_1 applied through_of faulty_of gives_of width_on start_on sooner_of
   none_1 t x w p at e l c br sp = refl
 
   -- an item of an operation: what it does goes by the width alone
@@ -138,13 +138,13 @@ module _ (st : State) (q s : ℕ) where
   module _ (c0 : List ℕ) (br0 sp0 : ℕ) where
     pub some_2 : (t : Bool) (x y w p at : ℕ) (e : Emits) (c : List ℕ) (br sp : ℕ)
         → through_2 true t w p at e (two x [] c0 br0 sp0 y [] c br sp) ≡ after st (shape whole (tried t w at)) p (faults_of (tried t w at)) (c ++ emits_of e) br sp
-    unfolding through_2 applied through_of tested_of gives_of one_if sooner_of shape faults_of earliest place_told
+    unfolding through_2 applied through_of tested_of gives_of width_on start_on sooner_of shape faults_of earliest place_told
     some_2 true x y w p at e c br sp = refl
     some_2 false x y w p at e c br sp = refl
 
     pub none_2 : (t : Bool) (x y w p at : ℕ) (e : Emits) (k l c : List ℕ) (br sp : ℕ)
         → through_2 false t w p at e (two x k c0 br0 sp0 y l c br sp) ≡ after st 99 p (k ++ l) (c ++ emits_of e) br sp
-    unfolding through_2 applied through_of faulty_of gives_of one_if sooner_of
+    unfolding through_2 applied through_of faulty_of gives_of width_on start_on sooner_of
     none_2 t x y w p at e k l c br sp = ap (λ (f : Place). record { widths = 99 ∷ st.widths; starts = p ∷ st.starts; slots = st.slots; code = c ++ emits_of e; lengths = st.lengths; first = f; breadth = br; start = sp; cases = st.cases; rule = st.rule }) (told_after k l st.first)
 
   pub record Over2 (o p a b c d at from : ℕ) (t : ℕ → ℕ → Bool) (f : ℕ → ℕ → ℕ) (e : ℕ → ℕ → Emits) : Type 0 where

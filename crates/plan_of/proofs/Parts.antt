@@ -12,7 +12,7 @@ use Rattle.language.specs.Text.{earliest}
 use Rattle.language.specs.Parts.{each}
 use Rattle.language.specs.Sizes.{Extent, wide, faulty, one_part, two_parts, faults_of, limited}
 use Rattle.words.specs.Found.{Place}
-use Rattle.std.specs.Prelude.{None}
+use Rattle.std.specs.Prelude.{Some, None}
 use Rattle.words.specs.Found.{place_told}
 use Rattle.plan.specs.declared.Item.{Item}
 use Rattle.plan.specs.declared.Item.TheVariants.{Beside, Choice, Keep}
@@ -22,9 +22,8 @@ use Rattle.plan_of.specs.Formed.{Kind, whole, parts}
 use Rattle.plan_of.proofs.Extents.{chosen_extent}
 use Rattle.settled.specs.Form.{six, START, JOINED, BESIDE, SELECT, SELECTED}
 use Rattle.size_walk.specs.declared.Effect.{Effect}
-use Rattle.size_walk.specs.declared.Emits.TheVariants.{Nothing, Adds}
 use Rattle.size_walk.specs.Effects.{sooner_of, has, gives_of, faulty_of, tested_of, through_of, begun_effect, joined_effect, beside_effect, select_effect, selected_effect, ends_of, effect_of}
-use Rattle.size_walk.specs.Steps.{State, seen_of, one_if, emits_of, held_of, around_of, pick, ended_of, step_of}
+use Rattle.size_walk.specs.Steps.{State, seen_of, width_on, start_on, emits_of, held_of, around_of, pick, ended_of, step_of}
 use Rattle.plan_of.proofs.Firsts.{told, told_after}
 use Rattle.plan_of.proofs.Walks.{Goes, goes_both, goes_six, after}
 use Rattle.plan_of.proofs.Left.{shape, Small, coded, Left, tried, applied, two, through_2, some_2, none_2, both_code, each_both}
@@ -32,7 +31,7 @@ use Rattle.plan_of.proofs.Left.{shape, Small, coded, Left, tried, applied, two, 
 -- ---- the same expression, which begins before
 
 pub left_begun : (st : State) (k : Kind) (x : Extent) (q p : ℕ) (items : List ℕ) (is : List Item) → Left k x q items is st → Left k x p (items ++ six START p 0 0 0 0) is st
-unfolding step_of effect_of seen_of begun_effect gives_of one_if emits_of held_of around_of pick ended_of sooner_of
+unfolding step_of effect_of seen_of begun_effect gives_of width_on start_on emits_of held_of around_of pick ended_of sooner_of
 left_begun st k x q p items is r =
     record {
       c = r.c ++ [];
@@ -57,14 +56,14 @@ left_part st (faulty l) p items is h r = record { c = r.c; br = r.br; sp = r.sp;
 
 module _ (st : State) (q p : ℕ) (items : List ℕ) (is : List Item) where
   unfoldable joins : (b t : Bool) (w : ℕ) (l c : List ℕ) (br sp : ℕ) → State
-  joins b t w l c br sp = applied (after st w q l c br sp) (through_of b 1 p Nothing (tested_of t 1 w p p Nothing))
+  joins b t w l c br sp = applied (after st w q l c br sp) (through_of b 1 p None (tested_of t 1 w p p None))
 
   joined_does : (w : ℕ) (l c : List ℕ) (br sp : ℕ) → step_of (after st w q l c br sp) JOINED p 0 0 0 0 ≡ joins (not (eqb w 99)) (leb w 64) w l c br sp
   unfolding joins applied step_of effect_of seen_of joined_effect has through_of around_of pick ended_of held_of
   joined_does w l c br sp = refl
 
   joined_tried : (b : Bool) (w : ℕ) (c : List ℕ) (br sp : ℕ) → joins true b w [] c br sp ≡ after st (shape whole (tried b w p)) p (faults_of (tried b w p)) (c ++ []) br sp
-  unfolding joins applied emits_of through_of tested_of gives_of one_if sooner_of shape faults_of earliest place_told
+  unfolding joins applied emits_of through_of tested_of gives_of width_on start_on sooner_of shape faults_of earliest place_told
   joined_tried true w c br sp = refl
   joined_tried false w c br sp = refl
 
@@ -81,7 +80,7 @@ module _ (st : State) (q p : ℕ) (items : List ℕ) (is : List Item) where
   joined_some w c br sp = joined_tried (leb (min w 65) 64) (min w 65) c br sp ∙ ap (λ (x : Extent). after st (shape whole x) p (faults_of x) (c ++ []) br sp) (limited_least w)
 
   pub left_joined : (x : Extent) → Left parts x q items is st → Left whole (one_part x (λ w. limited p w)) p (items ++ six JOINED p 0 0 0 0) is st
-  unfolding one_part shape faults_of joins applied emits_of through_of faulty_of gives_of one_if sooner_of
+  unfolding one_part shape faults_of joins applied emits_of through_of faulty_of gives_of width_on start_on sooner_of
   left_joined (wide w) r =
       record {
         c = r.c ++ [];
@@ -104,7 +103,7 @@ module _ (st : State) (q p : ℕ) (items : List ℕ) (is : List Item) where
 
 module _ (st : State) (q s : ℕ) (items others : List ℕ) (is js : List Item) where
   unfoldable besides : (b : Bool) (x y : ℕ) (k c0 : List ℕ) (br0 sp0 : ℕ) (l c : List ℕ) (br sp : ℕ) → State
-  besides b x y k c0 br0 sp0 l c br sp = through_2 st q s b true (min (x + y) 65) q q (Adds (Beside y)) (two st q s x k c0 br0 sp0 y l c br sp)
+  besides b x y k c0 br0 sp0 l c br sp = through_2 st q s b true (min (x + y) 65) q q (Some (Beside y)) (two st q s x k c0 br0 sp0 y l c br sp)
 
   beside_does : (x y : ℕ) (k c0 : List ℕ) (br0 sp0 : ℕ) (l c : List ℕ) (br sp : ℕ)
       → step_of (two st q s x k c0 br0 sp0 y l c br sp) BESIDE 0 0 0 0 0 ≡ besides (not (eqb y 99 || eqb x 99)) x y k c0 br0 sp0 l c br sp
@@ -131,43 +130,43 @@ module _ (st : State) (q s : ℕ) (items others : List ℕ) (is js : List Item) 
   left_beside (wide m) (wide n) g r z =
       let e : min (min m 65 + n) 65 ≡ min (m + n) 65 = omega arith in
       record {
-        c = z.c ++ emits_of (Adds (Beside n));
+        c = z.c ++ emits_of (Some (Beside n));
         br = z.br;
         sp = z.sp;
         goes = goes_both r.goes (goes_both z.goes (goes_six BESIDE 0 0 0 0 0 (beside_does (min m 65) n [] r.c r.br r.sp [] z.c z.br z.sp
             ∙ ap (λ (b : Bool). besides b (min m 65) n [] r.c r.br r.sp [] z.c z.br z.sp) (tests (min m 65) n (omega arith) (omega arith))
-            ∙ some_2 st q s r.c r.br r.sp true (min m 65) n (min (min m 65 + n) 65) q q (Adds (Beside n)) z.c z.br z.sp
-            ∙ ap (λ (w : ℕ). after st w q [] (z.c ++ emits_of (Adds (Beside n))) z.br z.sp) e)));
-        code = λ y. both_code st is js (Beside n ∷ []) (Adds (Beside n)) r.c z.c (r.code tt) (z.code tt) beside_code;
+            ∙ some_2 st q s r.c r.br r.sp true (min m 65) n (min (min m 65 + n) 65) q q (Some (Beside n)) z.c z.br z.sp
+            ∙ ap (λ (w : ℕ). after st w q [] (z.c ++ emits_of (Some (Beside n))) z.br z.sp) e)));
+        code = λ y. both_code st is js (Beside n ∷ []) (Some (Beside n)) r.c z.c (r.code tt) (z.code tt) beside_code;
       }
     where
-      beside_code : emits_of (Adds (Beside n)) ≡ coded (Beside n ∷ [])
+      beside_code : emits_of (Some (Beside n)) ≡ coded (Beside n ∷ [])
       beside_code = refl
   left_beside (wide m) (faulty l) g r z =
       record {
-        c = z.c ++ emits_of (Adds (Beside 99));
+        c = z.c ++ emits_of (Some (Beside 99));
         br = z.br;
         sp = z.sp;
-        goes = goes_both r.goes (goes_both z.goes (goes_six BESIDE 0 0 0 0 0 (beside_does (min m 65) 99 [] r.c r.br r.sp l z.c z.br z.sp ∙ none_2 st q s r.c r.br r.sp true (min m 65) 99 (min (min m 65 + 99) 65) q q (Adds (Beside 99)) [] l z.c z.br z.sp)));
+        goes = goes_both r.goes (goes_both z.goes (goes_six BESIDE 0 0 0 0 0 (beside_does (min m 65) 99 [] r.c r.br r.sp l z.c z.br z.sp ∙ none_2 st q s r.c r.br r.sp true (min m 65) 99 (min (min m 65 + 99) 65) q q (Some (Beside 99)) [] l z.c z.br z.sp)));
         code = λ y. absurd y;
       }
   left_beside (faulty k) (wide n) g r z =
       record {
-        c = z.c ++ emits_of (Adds (Beside n));
+        c = z.c ++ emits_of (Some (Beside n));
         br = z.br;
         sp = z.sp;
         goes = goes_both r.goes (goes_both z.goes (goes_six BESIDE 0 0 0 0 0 (beside_does 99 n k r.c r.br r.sp [] z.c z.br z.sp
             ∙ ap (λ (b : Bool). besides b 99 n k r.c r.br r.sp [] z.c z.br z.sp) (second n)
-            ∙ none_2 st q s r.c r.br r.sp true 99 n (min (99 + n) 65) q q (Adds (Beside n)) k [] z.c z.br z.sp
-            ∙ ap (λ (l : List ℕ). after st 99 q l (z.c ++ emits_of (Adds (Beside n))) z.br z.sp) (append-nil k))));
+            ∙ none_2 st q s r.c r.br r.sp true 99 n (min (99 + n) 65) q q (Some (Beside n)) k [] z.c z.br z.sp
+            ∙ ap (λ (l : List ℕ). after st 99 q l (z.c ++ emits_of (Some (Beside n))) z.br z.sp) (append-nil k))));
         code = λ y. absurd y;
       }
   left_beside (faulty k) (faulty l) g r z =
       record {
-        c = z.c ++ emits_of (Adds (Beside 99));
+        c = z.c ++ emits_of (Some (Beside 99));
         br = z.br;
         sp = z.sp;
-        goes = goes_both r.goes (goes_both z.goes (goes_six BESIDE 0 0 0 0 0 (beside_does 99 99 k r.c r.br r.sp l z.c z.br z.sp ∙ none_2 st q s r.c r.br r.sp true 99 99 (min (99 + 99) 65) q q (Adds (Beside 99)) k l z.c z.br z.sp)));
+        goes = goes_both r.goes (goes_both z.goes (goes_six BESIDE 0 0 0 0 0 (beside_does 99 99 k r.c r.br r.sp l z.c z.br z.sp ∙ none_2 st q s r.c r.br r.sp true 99 99 (min (99 + 99) 65) q q (Some (Beside 99)) k l z.c z.br z.sp)));
         code = λ y. absurd y;
       }
 
@@ -194,17 +193,17 @@ module _ (st : State) (u t s p o from : ℕ) where
   three_wait c x y i j l k0 k1 k b0 s0 b1 s1 br sp = after (after (after st c u i k0 b0 s0) x t j k1 b1 s1) y s l k br sp
 
   unfoldable pub chooses : (b : Bool) (w : ℕ) → State → State
-  chooses b w z = applied z (through_of b 3 from (Adds Choice) (gives_of 3 w from None (Adds Choice)))
+  chooses b w z = applied z (through_of b 3 from (Some Choice) (gives_of 3 w from None (Some Choice)))
 
   module _ (k0 k1 k : List ℕ) (b0 s0 b1 s1 br sp : ℕ) where
-    some_3 : (c x y w : ℕ) → chooses true w (three_wait c x y [] [] [] k0 k1 k b0 s0 b1 s1 br sp) ≡ after st w from [] (k ++ emits_of (Adds Choice)) br sp
-    unfolding chooses applied through_of gives_of one_if sooner_of earliest place_told
+    some_3 : (c x y w : ℕ) → chooses true w (three_wait c x y [] [] [] k0 k1 k b0 s0 b1 s1 br sp) ≡ after st w from [] (k ++ emits_of (Some Choice)) br sp
+    unfolding chooses applied through_of gives_of width_on start_on sooner_of earliest place_told
     some_3 c x y w = refl
 
-    none_3 : (c x y w : ℕ) (i j l : List ℕ) → chooses false w (three_wait c x y i j l k0 k1 k b0 s0 b1 s1 br sp) ≡ after st 99 from (i ++ (j ++ l)) (k ++ emits_of (Adds Choice)) br sp
-    unfolding chooses applied through_of faulty_of gives_of one_if sooner_of
+    none_3 : (c x y w : ℕ) (i j l : List ℕ) → chooses false w (three_wait c x y i j l k0 k1 k b0 s0 b1 s1 br sp) ≡ after st 99 from (i ++ (j ++ l)) (k ++ emits_of (Some Choice)) br sp
+    unfolding chooses applied through_of faulty_of gives_of width_on start_on sooner_of
     none_3 c x y w i j l =
-        ap (λ (f : Place). record { widths = 99 ∷ st.widths; starts = from ∷ st.starts; slots = st.slots; code = k ++ emits_of (Adds Choice); lengths = st.lengths; first = f; breadth = br; start = sp; cases = st.cases; rule = st.rule })
+        ap (λ (f : Place). record { widths = 99 ∷ st.widths; starts = from ∷ st.starts; slots = st.slots; code = k ++ emits_of (Some Choice); lengths = st.lengths; first = f; breadth = br; start = sp; cases = st.cases; rule = st.rule })
         (told_after j l (sooner_of (told i) st.first) ∙ told_after i (j ++ l) st.first)
 
   pub record Over3 : Type 0 where
@@ -219,22 +218,22 @@ module _ (st : State) (u t s p o from : ℕ) where
     unfolding has two_parts shape faults_of emits_of each
     left_choice c x y (widths k m n) hc hx hy r q z =
         record {
-          c = z.c ++ emits_of (Adds Choice);
+          c = z.c ++ emits_of (Some Choice);
           br = z.br;
           sp = z.sp;
           goes = goes_both r.goes (goes_both q.goes (goes_both z.goes (goes_six o p 0 0 0 0 (v.does k m n [] [] [] r.c q.c z.c r.br r.sp q.br q.sp z.br z.sp
               ∙ ap (λ (b : Bool). chooses b (max m n) (three_wait k m n [] [] [] r.c q.c z.c r.br r.sp q.br q.sp z.br z.sp)) (ap₂ ◌&&◌ (ap₂ ◌&&◌ (le-leb n 64 hy) (le-leb m 64 hx)) (le-leb k 64 hc))
               ∙ some_3 r.c q.c z.c r.br r.sp q.br q.sp z.br z.sp k m n (max m n)))));
-          code = λ w. both_code (after st k u [] r.c r.br r.sp) js ks (Choice ∷ []) (Adds Choice) q.c z.c (q.code tt) (z.code tt) refl
+          code = λ w. both_code (after st k u [] r.c r.br r.sp) js ks (Choice ∷ []) (Some Choice) q.c z.c (q.code tt) (z.code tt) refl
               ∙ ap (λ (l : List ℕ). l ++ coded (js ++ (ks ++ (Choice ∷ [])))) (r.code tt) ∙ append_assoc st.code (coded is) _ ∙ ap (λ (l : List ℕ). st.code ++ l) (sym (each_both is _));
         }
     left_choice c x y (none e f) hc hx hy r q z =
-        let g : Goes st (ds ++ (bs ++ (cs ++ six o p 0 0 0 0))) (after st 99 from (faults_of c ++ (faults_of x ++ faults_of y)) (z.c ++ emits_of (Adds Choice)) z.br z.sp) =
+        let g : Goes st (ds ++ (bs ++ (cs ++ six o p 0 0 0 0))) (after st 99 from (faults_of c ++ (faults_of x ++ faults_of y)) (z.c ++ emits_of (Some Choice)) z.br z.sp) =
         goes_both r.goes (goes_both q.goes (goes_both z.goes (goes_six o p 0 0 0 0 (v.does (shape whole c) (shape whole x) (shape whole y) (faults_of c) (faults_of x) (faults_of y) r.c q.c z.c r.br r.sp q.br q.sp z.br z.sp
         ∙ ap (λ (b : Bool). chooses b (max (shape whole x) (shape whole y)) (three_wait (shape whole c) (shape whole x) (shape whole y) (faults_of c) (faults_of x) (faults_of y) r.c q.c z.c r.br r.sp q.br q.sp z.br z.sp)) f
         ∙ none_3 r.c q.c z.c r.br r.sp q.br q.sp z.br z.sp (shape whole c) (shape whole x) (shape whole y) (max (shape whole x) (shape whole y)) (faults_of c) (faults_of x) (faults_of y))))) in
         subst (λ (w : Extent). Left whole w from (ds ++ (bs ++ (cs ++ six o p 0 0 0 0))) (is ++ (js ++ (ks ++ (Choice ∷ [])))) st) (sym e)
-        (record { c = z.c ++ emits_of (Adds Choice); br = z.br; sp = z.sp; goes = g; code = λ w. absurd w })
+        (record { c = z.c ++ emits_of (Some Choice); br = z.br; sp = z.sp; goes = g; code = λ w. absurd w })
 
 -- ---- a case: what it selects by is kept, and its arms stand one deeper
 
@@ -256,7 +255,7 @@ module _ (st : State) (q p : ℕ) where
       }
 
   select_does : (x : ℕ) (l c : List ℕ) (br sp : ℕ) → step_of (after st x q l c br sp) SELECT p 0 0 0 0 ≡ opened x l c br sp
-  unfolding step_of effect_of seen_of select_effect ends_of one_if emits_of held_of around_of pick ended_of sooner_of
+  unfolding step_of effect_of seen_of select_effect ends_of width_on start_on emits_of held_of around_of pick ended_of sooner_of
   select_does x l c br sp = refl
 
   module _ (s : ℕ) where
@@ -278,10 +277,10 @@ module _ (st : State) (q p : ℕ) where
 
     unfoldable selects : (b : Bool) (x y : ℕ) (k c0 : List ℕ) (br0 sp0 : ℕ) (l c : List ℕ) (br sp : ℕ) → State
     selects b x y k c0 br0 sp0 l c br sp =
-        let e : Effect = through_of b 2 p Nothing (gives_of 2 y p None Nothing) in
+        let e : Effect = through_of b 2 p None (gives_of 2 y p None None) in
         record {
-          widths = one_if e.leaves e.width (drop e.takes (y ∷ x ∷ st.widths));
-          starts = one_if e.leaves e.start (drop e.takes (s ∷ q ∷ st.starts));
+          widths = width_on e.leaves (drop e.takes (y ∷ x ∷ st.widths));
+          starts = start_on e.leaves (drop e.takes (s ∷ q ∷ st.starts));
           slots = st.slots;
           code = c ++ emits_of e.emits;
           lengths = st.lengths;
@@ -301,11 +300,11 @@ module _ (st : State) (q p : ℕ) where
     back = omega arith
 
     selected_some : (x y : ℕ) (c0 : List ℕ) (br0 sp0 : ℕ) (c : List ℕ) (br sp : ℕ) → selects true x y [] c0 br0 sp0 [] c br sp ≡ after st y p [] (c ++ []) br sp
-    unfolding selects through_of gives_of one_if emits_of sooner_of earliest place_told
+    unfolding selects through_of gives_of width_on start_on emits_of sooner_of earliest place_told
     selected_some x y c0 br0 sp0 c br sp = ap (λ (n : ℕ). closes y st.first (c ++ []) br sp n) back
 
     selected_none : (x y : ℕ) (k c0 : List ℕ) (br0 sp0 : ℕ) (l c : List ℕ) (br sp : ℕ) → selects false x y k c0 br0 sp0 l c br sp ≡ after st 99 p (k ++ l) (c ++ []) br sp
-    unfolding selects through_of faulty_of gives_of one_if emits_of sooner_of
+    unfolding selects through_of faulty_of gives_of width_on start_on emits_of sooner_of
     selected_none x y k c0 br0 sp0 l c br sp = ap₂ (λ (f : Place) (n : ℕ). closes 99 f (c ++ []) br sp n) (told_after k l st.first) back
 
     module _ (items others : List ℕ) (is js : List Item) where

@@ -13,7 +13,7 @@ use Rattle.size_walk.specs.declared.Far.{Far}
 use Rattle.size_walk.specs.declared.Seen.{Seen}
 use Rattle.settled.specs.Form.{BITS, TYPED, VAL, RULED}
 use Rattle.size_walk.specs.Effects.{sooner_of, effect_of}
-use Rattle.size_walk.specs.Steps.{State, seen_of, one_if, emits_of, held_of, around_of, pick, ended_of, room, step_of, onward_of, walk, begin, Holds}
+use Rattle.size_walk.specs.Steps.{State, seen_of, width_on, start_on, emits_of, held_of, around_of, pick, ended_of, room, step_of, onward_of, walk, begin, Holds}
 use Rattle.size_walk.specs.Bounds.{effect_at, step_at, up_to, Bounded}
 use Rattle.laws.specs.Tables.{Kept}
 use Rattle.laws.proofs.Tables.{stored}
@@ -72,8 +72,8 @@ up_next t i = let e : i + 1 ≡ suc i = omega arith in rw e
 
 -- what the parts of a step leave in the tables, over what an item does: so many wait, the code is so long, so many rules have ended
 pub record Turned (widths starts slots code lengths : List ℕ) (far : Far) (e : Effect) (op a : ℕ) (widths' starts' slots' code' lengths' : List ℕ) (waits out rules : ℕ) : Type 0 where
-  pub wide : top widths' waits ≡ one_if e.leaves e.width (drop e.takes (top widths far.waits))
-  pub begun : top starts' waits ≡ one_if e.leaves e.start (drop e.takes (top starts far.waits))
+  pub wide : top widths' waits ≡ width_on e.leaves (drop e.takes (top widths far.waits))
+  pub begun : top starts' waits ≡ start_on e.leaves (drop e.takes (top starts far.waits))
   pub kept : slots' ≡ held_of (eqb op VAL || eqb op TYPED) a e.emits slots
   pub fits : far.out + length (emits_of e.emits) ≤ length code
   pub long : out ≡ far.out + length (emits_of e.emits)
@@ -85,8 +85,8 @@ pub record Turned (widths starts slots code lengths : List ℕ) (far : Far) (e :
 unfoldable step_by : State → Effect → (op p a : ℕ) → State
 step_by s e op p a =
     record {
-      widths = one_if e.leaves e.width (drop e.takes s.widths);
-      starts = one_if e.leaves e.start (drop e.takes s.starts);
+      widths = width_on e.leaves (drop e.takes s.widths);
+      starts = start_on e.leaves (drop e.takes s.starts);
       slots = held_of (eqb op VAL || eqb op TYPED) a e.emits s.slots;
       code = s.code ++ emits_of e.emits;
       lengths = ended_of (eqb op RULED && ltb (length s.lengths) room) (length (s.code ++ emits_of e.emits) - s.rule) s.lengths;
@@ -103,8 +103,8 @@ module _ (widths starts slots code lengths : List ℕ) (far : Far) (op p a : ℕ
   unfolding step_by onward_of
   by_effect e t =
       record {
-        wide = t.wide ∙ ap (λ (l : List ℕ). one_if e.leaves e.width (drop e.takes l)) h.wide;
-        begun = t.begun ∙ ap (λ (l : List ℕ). one_if e.leaves e.start (drop e.takes l)) h.begun;
+        wide = t.wide ∙ ap (λ (l : List ℕ). width_on e.leaves (drop e.takes l)) h.wide;
+        begun = t.begun ∙ ap (λ (l : List ℕ). start_on e.leaves (drop e.takes l)) h.begun;
         kept = t.kept ∙ ap (held_of (eqb op VAL || eqb op TYPED) a e.emits) h.kept;
         coded = ap₂ take t.long t.coded ∙ stored code (emits_of e.emits) far.out t.fits ∙ ap (λ (l : List ℕ). l ++ emits_of e.emits) h.coded;
         long = long;
@@ -163,3 +163,15 @@ module _ (op p a : ℕ) (f : Place) (w o n : ℕ) (far r : Far) (is : r ≡ onwa
   pub lengths_kept : {m : ℕ} {l l' : List ℕ} → Kept m n l l' → Kept m r.rules l l'
   unfolding onward_of
   lengths_kept {m = m} {l = l} {l' = l'} k = subst (λ (y : ℕ). Kept m y l l') (sym (ap (λ (y : Far). y.rules) is)) k
+
+-- ---- the walk's tables after i items
+
+pub record Walked (items code₀ lengths₀ widths starts slots code lengths : List ℕ) (far : Far) (i : ℕ) : Type 0 where
+  pub many_widths : length widths ≡ 8192
+  pub many_starts : length starts ≡ 8192
+  pub long : length code ≡ length code₀
+  pub ends : length lengths ≡ length lengths₀
+  pub bounded : Bounded far i
+  pub coded : Kept 0 far.out code₀ code
+  pub ended : Kept 0 far.rules lengths₀ lengths
+  pub holds : Holds widths starts slots code lengths far (up_to items i)

@@ -39,13 +39,11 @@ fn step(
     let p = part(items, i, 1);
     let a = part(items, i, 2);
     let e = effect_at(items, i, seen(widths, starts, slots, a, far));
-    let emits = e.emits;
-    let fault = e.fault;
-    hold(op, a, emits, slots);
-    let out = emitted(emits, code, far.out);
+    hold(op, a, e.emits, slots);
+    let out = emitted(e.emits, code, far.out);
     let rules = ended(op, lengths, far.rules, out - far.rule);
     let waits = left(e, far.waits, widths, starts);
-    onward(op, p, a, fault, waits, out, rules, far)
+    onward(op, p, a, e.fault, waits, out, rules, far)
 }
 
 // The earliest fault of the settled items; the code, and the length of each rule's.
@@ -68,8 +66,7 @@ pub fn fault(items: &[u32], many: usize, code: &mut [u32], lengths: &mut [u32]) 
         rules: 0,
         rule: 0,
     };
-    let mut i = 0;
-    while i < many {
+    for i in 0..many {
         far = step(
             items,
             i,
@@ -80,7 +77,6 @@ pub fn fault(items: &[u32], many: usize, code: &mut [u32], lengths: &mut [u32]) 
             lengths,
             far,
         );
-        i += 1;
     }
     far.first
 }

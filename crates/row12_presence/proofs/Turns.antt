@@ -7,12 +7,11 @@ use native.Mathlib.Omega.{arith}
 use lib.Bits.{bit_or}
 use lib.ListN.{length, get_or, take, drop, length-drop}
 use lib.Seq.{drop-cons, get_or-take, length-take-le}
-use borrow.Author.Tests.{ne_eqb, lt-ltb, le-ltb}
+use borrow.Author.Tests.{lt-ltb, le-ltb}
 use Rattle.plan.proofs.Lists.{one_shl}
 use Rattle.words.specs.Found.{Place}
-use Rattle.settled.specs.Form.{PRESENT, ASSIGN, RULED, OR}
 use Rattle.row12_presence.specs.declared.Met.{Met}
-use Rattle.row12_presence.specs.Walk.{mask_bits, with_port, faulty, listing, next_of, soonest, walk}
+use Rattle.row12_presence.specs.Walk.{mask_bits, with_port, faulty, next_of, soonest, begin, walk}
 
 -- ---- a port more
 
@@ -24,20 +23,10 @@ pub port_past : (set k : ℕ) → mask_bits ≤ k → set ≡ with_port set k
 unfolding with_port
 port_past set k h = sym (simp (with_port, le-ltb k mask_bits h))
 
--- ---- the sets after an item
+-- ---- before the first item
 
-module _ (m : Met) (op k b : ℕ) where
-  pub next_unlisted : op ≡ PRESENT → (b ≡ 1 → ⊥) → m ≡ next_of m op k b
-  unfolding next_of listing
-  next_unlisted e n = sym (simp (next_of, e, listing, ne_eqb b 1 n))
-
-  pub next_listed : op ≡ PRESENT → b ≡ 1 → next_of m op k b ≡ record { required = with_port m.required k; assigned = m.assigned; everywhere = m.everywhere; earlier = m.earlier }
-  unfolding next_of listing
-  next_listed e n = rw (e, n)
-
-  pub next_same : (op ≡ PRESENT → ⊥) → (op ≡ ASSIGN → ⊥) → (op ≡ RULED → ⊥) → (op ≡ OR → ⊥) → m ≡ next_of m op k b
-  unfolding next_of
-  next_same p a r o = sym (simp (next_of, ne_eqb op PRESENT p, ne_eqb op ASSIGN a, ne_eqb op RULED r, ne_eqb op OR o))
+pub begun : (m : Met) → m.required ≡ 0 → m.assigned ≡ 0 → m.everywhere ≡ 0 → m.earlier ≡ 0 → m ≡ begin
+begun m a b c d = let e : ◌≡◌ {A = Met} (record { required = m.required; assigned = m.assigned; everywhere = m.everywhere; earlier = m.earlier }) begin = rw (a, b, c, d) refl in e
 
 -- ---- a turn
 

@@ -3,16 +3,15 @@
 // output assigned without `.p.1` in its rule, or of an output assigned twice in a rule or in two groups.
 #![tactic(auto)]
 
-ghost use Rattle.std.specs.Prelude.{◌≡◌, ◌*◌, ◌≤◌, length, take};
-ghost use Rattle.words.specs.declared.Place.TheVariants.{Nowhere};
-ghost use Rattle.row12_presence.specs.Walk.{has, with_port, faulty, next_of, soonest, begin, walk};
+ghost use Rattle.std.specs.Prelude.{◌≡◌, ◌*◌, ◌≤◌, length, take, None};
+ghost use Rattle.row12_presence.specs.Walk.{has, with_port, faulty, next_of, begin, walk};
 
 use plan::MASK_BITS;
 use settled::{ASSIGN, OR, PRESENT, READ, RULED};
 
 // Sets of ports, each a mask with bit k for port k: those that this rule lists with `.p.1`, the outputs that it has assigned,
 // those assigned so far in all groups, and those assigned in earlier groups.
-#[derive(Clone, Copy)]
+#[derive(Clone, Copy, Default)]
 struct Met {
     required: u32,
     assigned: u32,
@@ -21,6 +20,7 @@ struct Met {
 }
 
 // Whether a set has a port.
+#[tactic(auto, unfolding(crate::specs::Walk::has))]
 fn has_port(set: u32, port: u32) -> bool
     ensures { result ≡ has set port }
 {
@@ -28,6 +28,7 @@ fn has_port(set: u32, port: u32) -> bool
 }
 
 // A set with a port more, where the mask has a bit for it: a port of a greater number, which no text has, is in no set.
+#[tactic(auto, using(crate::proofs::Turns::port_inside, crate::proofs::Turns::port_past))]
 fn with_port(set: u32, port: u32) -> u32
     ensures { result ≡ with_port set port }
 {
@@ -39,6 +40,7 @@ fn with_port(set: u32, port: u32) -> u32
 }
 
 // Whether an item is at fault.
+#[tactic(auto, unfolding(crate::specs::Walk::faulty))]
 fn at_fault(op: u32, port: u32, met: Met) -> bool
     ensures { result ≡ faulty met op port }
 {
@@ -46,82 +48,55 @@ fn at_fault(op: u32, port: u32, met: Met) -> bool
         READ => !has_port(met.required, port),
         ASSIGN => {
             !has_port(met.required, port)
-                | has_port(met.assigned, port)
-                | has_port(met.earlier, port)
+                || has_port(met.assigned, port)
+                || has_port(met.earlier, port)
         }
         _ => false,
     }
 }
 
 // The sets after an item; an entry of a rule's list is listed as present by 1.
-#[tactic(auto, using(crate::proofs::Turns::next_unlisted, crate::proofs::Turns::next_listed))]
+#[tactic(auto, unfolding(crate::specs::Walk::next_of, crate::specs::Walk::listing, crate::specs::Walk::assigning, crate::specs::Walk::ending, crate::specs::Walk::grouping))]
 fn met_after(op: u32, port: u32, listed: u32, met: Met) -> Met
     ensures { result ≡ next_of met op port listed }
 {
     match op {
-        PRESENT => {
-            if listed != 1 {
-                return met;
-            }
-            Met {
-                required: with_port(met.required, port),
-                assigned: met.assigned,
-                everywhere: met.everywhere,
-                earlier: met.earlier,
-            }
-        }
+        PRESENT if listed == 1 => Met {
+            required: with_port(met.required, port),
+            ..met
+        },
         ASSIGN => Met {
-            required: met.required,
             assigned: with_port(met.assigned, port),
             everywhere: with_port(met.everywhere, port),
-            earlier: met.earlier,
+            ..met
         },
         RULED => Met {
             required: 0,
             assigned: 0,
-            everywhere: met.everywhere,
-            earlier: met.earlier,
+            ..met
         },
         OR => Met {
-            required: met.required,
-            assigned: met.assigned,
-            everywhere: met.everywhere,
             earlier: met.everywhere,
+            ..met
         },
         _ => met,
-    }
-}
-
-// The earlier of two places, where the first counts.
-fn sooner(counts: bool, at: u32, first: Option<u32>) -> Option<u32>
-    ensures { result ≡ soonest counts at first }
-{
-    if counts {
-        words::earlier(at, first)
-    } else {
-        first
     }
 }
 
 // The earliest place of a faulty item among so many.
 pub fn fault(items: &[u32], many: usize) -> Option<u32>
     requires { 6 * many ≤ length items.now }
-    ensures { result ≡ walk begin (take (6 * many) items.now) Nowhere }
+    ensures { result ≡ walk begin (take (6 * many) items.now) None }
 {
-    let mut met = Met {
-        required: 0,
-        assigned: 0,
-        everywhere: 0,
-        earlier: 0,
-    };
+    let mut met = Met::default();
     let mut first = None;
-    let mut i = 0;
-    while i < many {
+    for i in 0..many {
         let op = items[6 * i];
         let port = items[6 * i + 2];
-        first = sooner(at_fault(op, port, met), items[6 * i + 1], first);
+        if at_fault(op, port, met) {
+            first = words::earlier(items[6 * i + 1], first);
+        }
         met = met_after(op, port, items[6 * i + 3], met);
-        i += 1;
     }
     first
 }

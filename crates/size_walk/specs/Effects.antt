@@ -2,8 +2,8 @@
 use Rattle.std.specs.Prelude.{Bool, true, false, not, ◌&&◌, ◌||◌, ℕ, ◌+◌, ◌*◌, ◌^◌, min, max, eqb, leb, ltb}
 use Rattle.language.specs.Limits.{limits}
 use Rattle.language.specs.Values.{plain_width, unary_width, binary_width, range_width}
+use Rattle.std.specs.Prelude.{Option as Optional, Some, None}
 use Rattle.words.specs.Found.{Place}
-use Rattle.std.specs.Prelude.{Some, None}
 use Rattle.words.specs.Found.{earlier_of}
 use Rattle.plan.specs.declared.Item.{Item}
 use Rattle.plan.specs.declared.Item.TheVariants.{Const, Port, Let, Cell, Range, Copies, Beside, Before, Between, Choice, Arm, Keep, Assign, Write, Bad}
@@ -11,9 +11,11 @@ use Rattle.plan.specs.Items.{unary_item, binary_item}
 use Rattle.plan.specs.Sound.{case_slot, arm_slot}
 use Rattle.settled.specs.Form.{BIG, AMOUNT, PLAIN, COPIES, READ, CELL, HELD, RANGE, START, JOINED, BESIDE, UNARY, BINARY, CHOICE, EITHER, SELECT, SELECTED, ARM, ASSIGN, WRITE, TYPED, VAL}
 use Rattle.size_walk.specs.declared.Effect.{Effect}
-use Rattle.size_walk.specs.declared.Emits.{Emits}
-use Rattle.size_walk.specs.declared.Emits.TheVariants.{Nothing, Adds}
 use Rattle.size_walk.specs.declared.Seen.{Seen}
+
+-- what an item adds to the code: nothing, or an item of the plan's
+abbrev pub Emits : Type 0
+Emits = Optional Item
 
 -- what has no width: a fault is inside it
 abbrev pub FAULTY : ℕ
@@ -26,10 +28,10 @@ has w = leb w limits.expressionWidth
 -- ---- effects put together
 
 unfoldable pub gives_of : ℕ → ℕ → ℕ → Place → Emits → Effect
-gives_of k w s f e = record { takes = k; leaves = true; width = w; start = s; fault = f; emits = e }
+gives_of k w s f e = record { takes = k; leaves = Some (record { width = w; start = s }); fault = f; emits = e }
 
 unfoldable pub ends_of : ℕ → Place → Emits → Effect
-ends_of k f e = record { takes = k; leaves = false; width = 0; start = 0; fault = f; emits = e }
+ends_of k f e = record { takes = k; leaves = None; fault = f; emits = e }
 
 -- "An expression with a fault inside has no width and no further fault"
 unfoldable pub faulty_of : ℕ → ℕ → Emits → Effect
@@ -95,62 +97,62 @@ binary_wide o m n = between_width (binary_item o m n)
 -- ---- the items that take no expression
 
 unfoldable pub plain_effect : ℕ → ℕ → Effect
-plain_effect p v = gives_of 0 (plain_width v) p None (Adds (Const (plain_width v) v 0))
+plain_effect p v = gives_of 0 (plain_width v) p None (Some (Const (plain_width v) v 0))
 
 unfoldable pub read_effect : ℕ → ℕ → ℕ → Effect
-read_effect p k w = gives_of 0 w p None (Adds (Port k))
+read_effect p k w = gives_of 0 w p None (Some (Port k))
 
 module _ (v : Seen) where
   unfoldable pub big_effect : Effect
-  big_effect = tested_of false 0 0 v.start v.start Nothing
+  big_effect = tested_of false 0 0 v.start v.start None
 
   -- "constant too big for its width": of at most 64 bits
   unfoldable pub sized_effect : ℕ → ℕ → Effect
-  sized_effect lo hi = tested_of (has v.breadth && ltb (lo + hi * 2 ^ 32) (2 ^ v.breadth)) 0 v.breadth v.start v.start (Adds (Const v.breadth lo hi))
+  sized_effect lo hi = tested_of (has v.breadth && ltb (lo + hi * 2 ^ 32) (2 ^ v.breadth)) 0 v.breadth v.start v.start (Some (Const v.breadth lo hi))
 
   unfoldable pub used_effect : ℕ → ℕ → Effect
-  used_effect p k = gives_of 0 v.held p None (Adds (Let k))
+  used_effect p k = gives_of 0 v.held p None (Some (Let k))
 
   -- ---- the items over expressions
 
   unfoldable pub copies_effect : ℕ → ℕ → Effect
-  copies_effect p n = through_of (has v.x) 1 p (Adds (Copies n v.x)) (tested_of (leb (n * v.x) limits.expressionWidth) 1 (n * v.x) p p (Adds (Copies n v.x)))
+  copies_effect p n = through_of (has v.x) 1 p (Some (Copies n v.x)) (tested_of (leb (n * v.x) limits.expressionWidth) 1 (n * v.x) p p (Some (Copies n v.x)))
 
   unfoldable pub cell_effect : ℕ → ℕ → ℕ → ℕ → ℕ → Effect
-  cell_effect p m f n w = through_of (has v.x) 1 p (Adds (Cell m f n)) (gives_of 1 w p None (Adds (Cell m f n)))
+  cell_effect p m f n w = through_of (has v.x) 1 p (Some (Cell m f n)) (gives_of 1 w p None (Some (Cell m f n)))
 
   unfoldable pub range_effect : ℕ → ℕ → ℕ → Effect
-  range_effect p i j = through_of (has v.x) 1 v.s (Adds (Range i j)) (tested_of (ltb i v.x && ltb j v.x) 1 (range_width i j) v.s p (Adds (Range i j)))
+  range_effect p i j = through_of (has v.x) 1 v.s (Some (Range i j)) (tested_of (ltb i v.x && ltb j v.x) 1 (range_width i j) v.s p (Some (Range i j)))
 
   unfoldable pub begun_effect : ℕ → Effect
-  begun_effect p = gives_of 1 v.x p None Nothing
+  begun_effect p = gives_of 1 v.x p None None
 
   unfoldable pub joined_effect : ℕ → Effect
-  joined_effect p = through_of (not (eqb v.x FAULTY)) 1 p Nothing (tested_of (has v.x) 1 v.x p p Nothing)
+  joined_effect p = through_of (not (eqb v.x FAULTY)) 1 p None (tested_of (has v.x) 1 v.x p p None)
 
   -- a sum over 64 is kept as 65
   unfoldable pub beside_effect : Effect
-  beside_effect = through_of (not (eqb v.x FAULTY || eqb v.y FAULTY)) 2 v.t (Adds (Beside v.x)) (gives_of 2 (min (v.y + v.x) 65) v.t None (Adds (Beside v.x)))
+  beside_effect = through_of (not (eqb v.x FAULTY || eqb v.y FAULTY)) 2 v.t (Some (Beside v.x)) (gives_of 2 (min (v.y + v.x) 65) v.t None (Some (Beside v.x)))
 
   unfoldable pub unary_effect : ℕ → ℕ → Effect
-  unary_effect p o = through_of (has v.x) 1 p (Adds (unary_item o v.x)) (gives_of 1 (unary_wide o v.x) p None (Adds (unary_item o v.x)))
+  unary_effect p o = through_of (has v.x) 1 p (Some (unary_item o v.x)) (gives_of 1 (unary_wide o v.x) p None (Some (unary_item o v.x)))
 
   unfoldable pub binary_effect : ℕ → Effect
   binary_effect o =
-      through_of (has v.x && has v.y) 2 v.t (Adds (binary_item o v.y v.x))
-      (tested_of (has (binary_wide o v.y v.x)) 2 (binary_wide o v.y v.x) v.t v.t (Adds (binary_item o v.y v.x)))
+      through_of (has v.x && has v.y) 2 v.t (Some (binary_item o v.y v.x))
+      (tested_of (has (binary_wide o v.y v.x)) 2 (binary_wide o v.y v.x) v.t v.t (Some (binary_item o v.y v.x)))
 
   unfoldable pub choice_effect : ℕ → Effect
-  choice_effect p = through_of (has v.x && has v.y && has v.z) 3 p (Adds Choice) (gives_of 3 (max v.y v.x) p None (Adds Choice))
+  choice_effect p = through_of (has v.x && has v.y && has v.z) 3 p (Some Choice) (gives_of 3 (max v.y v.x) p None (Some Choice))
 
   unfoldable pub selected_effect : ℕ → Effect
-  selected_effect p = through_of (has v.x && has v.y) 2 p Nothing (gives_of 2 v.x p None Nothing)
+  selected_effect p = through_of (has v.x && has v.y) 2 p None (gives_of 2 v.x p None None)
 
   unfoldable pub arm_effect : ℕ → ℕ → Effect
-  arm_effect p n = through_of (has v.x && has v.y) 2 p (Adds (Arm n (arm_slot v.cases))) (gives_of 2 (max v.y v.x) p None (Adds (Arm n (arm_slot v.cases))))
+  arm_effect p n = through_of (has v.x && has v.y) 2 p (Some (Arm n (arm_slot v.cases))) (gives_of 2 (max v.y v.x) p None (Some (Arm n (arm_slot v.cases))))
 
   unfoldable pub select_effect : Effect
-  select_effect = ends_of 0 None (Adds (Keep (case_slot v.cases) v.x))
+  select_effect = ends_of 0 None (Some (Keep (case_slot v.cases) v.x))
 
   -- ---- what ends a statement: "a wider one is refused"
 
@@ -158,13 +160,13 @@ module _ (v : Seen) where
   fitted_at w = unless_at (not (has v.x) || leb v.x w) v.s
 
   unfoldable pub assign_effect : ℕ → ℕ → Effect
-  assign_effect k w = ends_of 1 (fitted_at w) (Adds (Assign k))
+  assign_effect k w = ends_of 1 (fitted_at w) (Some (Assign k))
 
   unfoldable pub write_effect : ℕ → ℕ → ℕ → ℕ → Effect
-  write_effect m f n w = ends_of 2 (fitted_at w) (Adds (Write m f n))
+  write_effect m f n w = ends_of 2 (fitted_at w) (Some (Write m f n))
 
   unfoldable pub val_effect : ℕ → Effect
-  val_effect k = ends_of 1 None (Adds (Keep k v.x))
+  val_effect k = ends_of 1 None (Some (Keep k v.x))
 
   unfoldable pub kept_of : Bool → ℕ → ℕ
   kept_of true w = w
@@ -172,7 +174,7 @@ module _ (v : Seen) where
 
   -- "A `let`'s type, 64 at most (else 11 at its name), is its target."
   unfoldable pub typed_effect : ℕ → ℕ → ℕ → Effect
-  typed_effect p k w = ends_of 1 (sooner_of (unless_at (has w) p) (fitted_at w)) (Adds (Keep k (kept_of (has w && leb v.x w) w)))
+  typed_effect p k w = ends_of 1 (sooner_of (unless_at (has w) p) (fitted_at w)) (Some (Keep k (kept_of (has w && leb v.x w) w)))
 
 -- ---- a settled item: its operation, its place and four operands
 
@@ -241,7 +243,7 @@ effect_of op p a b c d v =
                                                                                                                             elim (eqb op TYPED) [
                                                                                                                               | true ↦ typed_effect v p a d
                                                                                                                               | false ↦
-                                                                                                                                  elim (eqb op VAL) [ true ↦ val_effect v a | false ↦ ends_of 0 None Nothing ]
+                                                                                                                                  elim (eqb op VAL) [ true ↦ val_effect v a | false ↦ ends_of 0 None None ]
                                                                                                                             ]
                                                                                                                       ]
                                                                                                                 ]

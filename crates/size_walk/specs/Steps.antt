@@ -1,18 +1,17 @@
 -- The walk over the settled items, on lists: what waits, the latest first, and what was written. Assumes nothing: these are definitions.
 use Rattle.std.specs.Prelude.{◌≡◌, Bool, true, false, ◌&&◌, ◌||◌, List, [], ◌∷◌, ◌++◌, ℕ, ◌+◌, ◌-◌, ◌*◌, eqb, ltb, length, get_or, set, take, drop, replicate}
 use Rattle.words.specs.Found.{Place}
-use Rattle.std.specs.Prelude.{None}
+use Rattle.std.specs.Prelude.{Option as Optional, Some, None}
 use Rattle.plan.specs.Waits.{top}
 use Rattle.plan.specs.declared.Item.{Item}
 use Rattle.plan.specs.declared.Item.TheVariants.{Const, Port, Let, Cell, Range, Copies, Beside, Before, Between, Choice, Arm, Keep, Assign, Write, Bad}
 use Rattle.plan.specs.Items.{encode}
 use Rattle.size_walk.specs.declared.Effect.{Effect}
-use Rattle.size_walk.specs.declared.Emits.{Emits}
-use Rattle.size_walk.specs.declared.Emits.TheVariants.{Nothing, Adds}
 use Rattle.size_walk.specs.declared.Seen.{Seen}
 use Rattle.size_walk.specs.declared.Far.{Far}
+use Rattle.size_walk.specs.declared.Waiting.{Waiting}
 use Rattle.settled.specs.Form.{BITS, SELECT, SELECTED, TYPED, VAL, RULED}
-use Rattle.size_walk.specs.Effects.{sooner_of, effect_of}
+use Rattle.size_walk.specs.Effects.{Emits, sooner_of, effect_of}
 
 pub record State : Type 0 where
   pub widths : List ℕ
@@ -42,13 +41,18 @@ seen_of s k =
       held = get_or s.slots k 0;
     }
 
-unfoldable pub one_if : Bool → ℕ → List ℕ → List ℕ
-one_if true x l = x ∷ l
-one_if false x l = l
+-- what an item leaves, if it leaves one, on what waits: its width, and its first byte
+unfoldable pub width_on : Optional Waiting → List ℕ → List ℕ
+width_on (Some e) l = e.width ∷ l
+width_on None l = l
+
+unfoldable pub start_on : Optional Waiting → List ℕ → List ℕ
+start_on (Some e) l = e.start ∷ l
+start_on None l = l
 
 unfoldable pub emits_of : Emits → List ℕ
-emits_of Nothing = []
-emits_of (Adds i) = encode i
+emits_of None = []
+emits_of (Some i) = encode i
 
 -- the width that an item keeps: `val`s are kept by KEEP alone
 unfoldable pub kept_in : Item → ℕ
@@ -70,8 +74,8 @@ kept_in Bad = 0
 
 -- the width that a `val` keeps
 unfoldable pub held_of : Bool → ℕ → Emits → List ℕ → List ℕ
-held_of true k Nothing l = l
-held_of true k (Adds i) l = set l k (kept_in i)
+held_of true k None l = l
+held_of true k (Some i) l = set l k (kept_in i)
 held_of false k e l = l
 
 unfoldable pub around_of : ℕ → ℕ → ℕ
@@ -93,8 +97,8 @@ unfoldable pub step_of : State → (op p a b c d : ℕ) → State
 step_of s op p a b c d =
     let e : Effect = effect_of op p a b c d (seen_of s a) in
     record {
-      widths = one_if e.leaves e.width (drop e.takes s.widths);
-      starts = one_if e.leaves e.start (drop e.takes s.starts);
+      widths = width_on e.leaves (drop e.takes s.widths);
+      starts = start_on e.leaves (drop e.takes s.starts);
       slots = held_of (eqb op VAL || eqb op TYPED) a e.emits s.slots;
       code = s.code ++ emits_of e.emits;
       lengths = ended_of (eqb op RULED && ltb (length s.lengths) room) (length (s.code ++ emits_of e.emits) - s.rule) s.lengths;

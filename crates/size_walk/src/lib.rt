@@ -15,23 +15,21 @@ pub use turns::onward;
 // What has no width: a fault is inside it.
 pub const FAULTY: u32 = 99;
 
-// What an item adds to the code: nothing, or an item of the plan's.
+// An expression that waits: its width and its first byte.
 #[derive(Clone, Copy)]
-pub enum Emits {
-    Nothing,
-    Adds(Item),
+pub struct Waiting {
+    pub width: u32,
+    pub start: u32,
 }
 
-// What an item does: how many expressions it takes, the width and first byte of the one that it leaves, if it leaves one, its
-// fault, and what it adds to the code.
+// What an item does: how many expressions it takes, the one that it leaves, if it leaves one, its fault, and the item of the
+// plan's that it adds to the code, if it adds one.
 #[derive(Clone, Copy)]
 pub struct Effect {
     pub takes: usize,
-    pub leaves: bool,
-    pub width: u32,
-    pub start: u32,
+    pub leaves: Option<Waiting>,
     pub fault: Option<u32>,
-    pub emits: Emits,
+    pub emits: Option<Item>,
 }
 
 // What an item goes by: the widths and first bytes of the latest three expressions that wait, the latest first; the width

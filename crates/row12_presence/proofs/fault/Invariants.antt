@@ -1,13 +1,10 @@
--- `row12_presence::fault` meets its contract. The loop's invariant: what is left of the walk gives the answer. The measure is the items left. Assumes nothing.
+-- `row12_presence::fault` meets its contract. The loop's invariant: what is left of the walk gives the answer. Assumes nothing.
 use mathlib.Core.Path.{◌≡◌}
-use Prim.Native.Nat.{◌≤◌, ◌-◌, ◌*◌}
+use Prim.Native.Nat.{◌*◌}
 use lib.ListN.{take, drop}
 use Rattle.std.specs.Prelude.{None}
 use Rattle.row12_presence.specs.Walk.{walk, begin}
 use Rattle.row12_presence.proofs.fault.Given as goal
 
 abbrev pub invariant-loop-i : goal.invariant-loop-i
-invariant-loop-i l = (l.i ≤ l.many) × (walk l.met (drop (6 * l.i) (take (6 * l.many) l.items)) l.first ≡ walk begin (take (6 * l.many) l.items) None)
-
-abbrev pub decreases-loop-i : goal.decreases-loop-i
-decreases-loop-i l = l.many - l.i
+invariant-loop-i l = walk l.met (drop (6 * l.i) (take (6 * l.many) l.items)) l.first ≡ walk begin (take (6 * l.many) l.items) None
