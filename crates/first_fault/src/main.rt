@@ -24,12 +24,8 @@ struct Numeral {
     next: usize,
 }
 
-fn wide(x: u32) -> u64 {
-    x as u64
-}
-
 fn say(n: u32, end: &[u8]) {
-    io::print_decimal(STDOUT, wide(n));
+    io::print_decimal(STDOUT, u64::from(n));
     io::write_all(STDOUT, end);
 }
 
@@ -38,17 +34,17 @@ fn count(all: &[u8], from: usize) -> Numeral
     requires { from < length all.now }
     ensures { (from < result.next) × (result.next ≤ length all.now) }
 {
-    let mut v: usize = 0;
-    let mut i = from;
-    while i < all.len() {
-        let b = all[i];
-        i += 1;
-        if b == b'\n' {
-            return Numeral { value: v, next: i };
+    let mut value = 0;
+    for i in from..all.len() {
+        match all[i] {
+            b'\n' => return Numeral { value, next: i + 1 },
+            b => value = (value % COUNTED) * 10 + usize::from(b % 16),
         }
-        v = (v % COUNTED) * 10 + (b % 16) as usize;
     }
-    Numeral { value: v, next: i }
+    Numeral {
+        value,
+        next: all.len(),
+    }
 }
 
 // The end of n bytes, or of all.
@@ -56,7 +52,7 @@ fn part_end(len: usize, from: usize, n: usize) -> usize
     requires { from ≤ len }
     ensures { (from ≤ result) × (result ≤ len) }
 {
-    if n <= len - from { from + n } else { len }
+    from + n.min(len - from)
 }
 
 // The value of a sized constant.
@@ -77,14 +73,12 @@ fn show(actor: &[u8], table: &[u32], n: usize)
     requires { 4 * n ≤ length table.now }
 {
     say(0, b" ");
-    let mut i = 0;
-    while i < n {
+    for i in 0..n {
         say(table[4 * i], b" ");
         say(table[4 * i + 1], b" ");
         if table[4 * i] == signs::kinds::DIGITS {
             say_constant(actor, table[4 * i + 1]);
         }
-        i += 1;
     }
     io::write_all(STDOUT, b"\n");
 }
@@ -92,11 +86,8 @@ fn show(actor: &[u8], table: &[u32], n: usize)
 // The numbers of a tape.
 fn show_tape(tape: &syntax::Tape, length: u32) {
     say(0, b" ");
-    let n = part_end(NUMBERS, 0, length as usize);
-    let mut i = 0;
-    while i < n {
-        say(tape[i], b" ");
-        i += 1;
+    for &number in &tape[..NUMBERS.min(length as usize)] {
+        say(number, b" ");
     }
     io::write_all(STDOUT, b"\n");
 }
@@ -120,13 +111,11 @@ fn told(actor: &[u8], table: &[u32], words: u32) {
     if table.len() / 4 < n {
         return;
     }
-    match words::left_out(table, n) {
-        Some(p) => fault_at(4, p),
-        None => {
-            show(actor, table, n);
-            read(actor);
-        }
+    if let Some(p) = words::left_out(table, n) {
+        return fault_at(4, p);
     }
+    show(actor, table, n);
+    read(actor);
 }
 
 fn actor_fault(actor: &[u8], table: &mut [u32]) {
@@ -139,13 +128,12 @@ fn actor_fault(actor: &[u8], table: &mut [u32]) {
 
 fn fault(actor: &[u8], bindings: &[u8], table: &mut [u32]) {
     if BYTES < actor.len() {
-        read(actor);
-        return;
+        return read(actor);
     }
     match bindings::read(bindings, table) {
-        bindings::Answer::Bound(_, _) => actor_fault(actor, table),
-        bindings::Answer::Wrong(p) => fault_at(2, p),
-        bindings::Answer::NoRoom => fault_at(1, language::Bindings::BYTES),
+        Ok(_) => actor_fault(actor, table),
+        Err(bindings::Fault::Wrong(p)) => fault_at(2, p),
+        Err(bindings::Fault::NoRoom) => fault_at(1, language::Bindings::BYTES),
     }
 }
 
@@ -170,6 +158,7 @@ fn both(all: &[u8], at: usize, table: &mut [u32]) -> usize
 fn run(all: &[u8]) {
     let mut table = [0u32; 4 * BYTES];
     let mut at = 0;
+    // no `for`: a turn goes on by the length of what it read
     while at < all.len() {
         at = both(all, at, &mut table);
     }

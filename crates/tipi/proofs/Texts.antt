@@ -25,8 +25,8 @@ use Rattle.syntax.specs.Read.{tree_said, words_said, said_of, tree_after, words_
 use Rattle.syntax.specs.declared.Said.{Said}
 use Rattle.syntax.specs.declared.Said.TheVariants.{Tape as IsTape, Refused as IsRefused}
 use Rattle.bindings.specs.Table as Table
-use Rattle.bindings.specs.declared.Answer as bindings_answer
-use Rattle.bindings.specs.declared.Answer.TheVariants.{Bound as IsBound, Wrong, NoRoom}
+use Rattle.bindings.specs.declared.Fault.TheVariants.{Wrong, NoRoom}
+use Rattle.std.specs.Prelude.{Ok, Err}
 use Rattle.bindings.specs.declared.Lines.{Lines}
 use Rattle.tape.specs.Row.{Tells}
 use Rattle.row09_bindings.specs.Lines.{Binds}
@@ -175,43 +175,31 @@ module _ (text btext : List ℕ) where
   both_short h k = short h ∙ rw (le-leb (length btext) limits.bindings k)
 
   module _ (t : List ℕ) (h : length text ≤ limits.actor) (k : length btext ≤ limits.bindings) (room : 96 ≤ length t) where
-    answer_is : Table.answer_of btext t ≡ elim (bindings_of btext) [ bound b ↦ IsBound (length b.widths) (length b.values) | wrong_at p ↦ Wrong p ]
+    answer_is : Table.answer_of btext t ≡ elim (bindings_of btext) [ bound b ↦ Ok (Table.so_many (length b.widths) (length b.values)) | wrong_at p ↦ Err (Wrong p) ]
     unfolding Table.answer_of Table.roomy
     answer_is =
-        ap (λ (x : Bool). elim x as (λ (y : Bool). bindings_answer.Answer) [ false ↦ NoRoom | true ↦ elim (bindings_of btext) [ bound b ↦ IsBound (length b.widths) (length b.values) | wrong_at p ↦ Wrong p ] ])
+        ap (λ (x : Bool). elim x as (λ (y : Bool). Table.Answer) [
+          | false ↦ Err NoRoom
+          | true ↦ elim (bindings_of btext) [ bound b ↦ Ok (Table.so_many (length b.widths) (length b.values)) | wrong_at p ↦ Err (Wrong p) ]
+        ])
         (ap₂ (λ (x y : Bool). x && y) (le-leb (length btext) limits.bindings k) (le-leb 96 (length t) room))
 
-    pub bindings_wrong : {p : ℕ} {r : bindings_answer.Answer} (before : List ℕ) → r ≡ Table.answer_of btext t → r ≡ Wrong p → After (early text btext) (Refused 2 InBindings p) before before
+    pub bindings_wrong : {p : ℕ} {r : Table.Answer} (before : List ℕ) → r ≡ Table.answer_of btext t → r ≡ Err (Wrong p) → After (early text btext) (Refused 2 InBindings p) before before
     bindings_wrong {p} before e f = refusal 2 InBindings p before (both_short h k ∙ go (bindings_of btext) (sym f ∙ e ∙ answer_is))
       where
-        at : bindings_answer.Answer → ℕ
-        at (IsBound x y) = 0
-        at (Wrong q) = q
-        at NoRoom = 0
+        go : (x : Bound) → ◌≡◌ {A = Table.Answer} (Err (Wrong p)) (elim x [ bound b ↦ Ok (Table.so_many (length b.widths) (length b.values)) | wrong_at q ↦ Err (Wrong q) ]) → ◌≡◌ {A = Early} (elim x [ wrong_at q ↦ stopped 2 InBindings q | bound b ↦ worded text b ]) (stopped 2 InBindings p)
+        go (bound b) z = cc
+        go (wrong_at q) z = cc
 
-        mark : bindings_answer.Answer → Type 0
-        mark (IsBound x y) = ⊥
-        mark (Wrong q) = Unit {0}
-        mark NoRoom = ⊥
-
-        go : (x : Bound) → Wrong p ≡ elim x [ bound b ↦ IsBound (length b.widths) (length b.values) | wrong_at q ↦ Wrong q ] → ◌≡◌ {A = Early} (elim x [ wrong_at q ↦ stopped 2 InBindings q | bound b ↦ worded text b ]) (stopped 2 InBindings p)
-        go (bound b) z = absurd (subst mark z tt)
-        go (wrong_at q) z = ap (stopped 2 InBindings) (sym (ap at z))
-
-    pub never_no_room : {r : bindings_answer.Answer} → r ≡ Table.answer_of btext t → r ≡ NoRoom → ⊥
+    pub never_no_room : {r : Table.Answer} → r ≡ Table.answer_of btext t → r ≡ Err NoRoom → ⊥
     never_no_room e f = go (bindings_of btext) (sym f ∙ e ∙ answer_is)
       where
-        mark : bindings_answer.Answer → Type 0
-        mark (IsBound x y) = ⊥
-        mark (Wrong q) = ⊥
-        mark NoRoom = Unit {0}
+        go : (x : Bound) → ◌≡◌ {A = Table.Answer} (Err NoRoom) (elim x [ bound b ↦ Ok (Table.so_many (length b.widths) (length b.values)) | wrong_at q ↦ Err (Wrong q) ]) → ⊥
+        go (bound b) z = cc
+        go (wrong_at q) z = cc
 
-        go : (x : Bound) → NoRoom ≡ elim x [ bound b ↦ IsBound (length b.widths) (length b.values) | wrong_at q ↦ Wrong q ] → ⊥
-        go (bound b) z = subst mark z tt
-        go (wrong_at q) z = subst mark z tt
-
-  pub bindings_filled : (t : List ℕ) {table : List ℕ} {k m : ℕ} {r : bindings_answer.Answer} → r ≡ Table.answer_of btext t → table ≡ Table.table_after btext t → r ≡ IsBound k m → Filled btext table (Table.so_many k m)
-  bindings_filled t {k = k} {m = m} e f g = subst (λ (l : List ℕ). Filled btext l (Table.so_many k m)) (sym f) (read_fills btext t (sym e ∙ g))
+  pub bindings_filled : (t : List ℕ) {table : List ℕ} {lines : Lines} {r : Table.Answer} → r ≡ Table.answer_of btext t → table ≡ Table.table_after btext t → r ≡ Ok lines → Filled btext table lines
+  bindings_filled t {lines = lines} e f g = subst (λ (l : List ℕ). Filled btext l lines) (sym f) (read_fills btext t (sym e ∙ g))
 
   pub bindings_bound : (b : Bindings) → length text ≤ limits.actor → length btext ≤ limits.bindings → bindings_of btext ≡ bound b → early text btext ≡ worded text b
   bindings_bound b h k e = both_short h k ∙ rw e

@@ -16,38 +16,38 @@ worded-requires c =
     let args = c.args in
     let if1 = c.if-text in
     let the-read = c.read in
-    let widths = c.in-Bound in
-    let q = bindings_filled args.text.now args.bindings.now (replicate 96 0) the-read.ensures.answer the-read.ensures.table widths.is in
+    let lines = c.in-Ok in
+    let q = bindings_filled args.text.now args.bindings.now (replicate 96 0) the-read.ensures.answer the-read.ensures.table lines.is in
     record { text_len_bound = (if1.false, q.room); binds = (q.bindings, q.binds) }
 
-pub returns-in-Bound : goal.returns-in-Bound
-returns-in-Bound c =
+pub returns-in-Ok : goal.returns-in-Ok
+returns-in-Ok c =
     let args = c.args in
     let if1 = c.if-text in
     let if2 = c.if-bindings in
     let the-read = c.read in
-    let widths = c.in-Bound in
-    let q = bindings_filled args.text.now args.bindings.now (replicate 96 0) the-read.ensures.answer the-read.ensures.table widths.is in
+    let lines = c.in-Ok in
+    let q = bindings_filled args.text.now args.bindings.now (replicate 96 0) the-read.ensures.answer the-read.ensures.table lines.is in
     after_read _ _
     (after_as (bindings_bound _ _ q.bindings if1.false if2.false q.binds.reads)
     (c.worded.ensures q.bindings q.binds))
 
-pub returns-in-Wrong : goal.returns-in-Wrong
-returns-in-Wrong c =
+pub returns-in-Err-Wrong : goal.returns-in-Err-Wrong
+returns-in-Err-Wrong c =
     let args = c.args in
     let if1 = c.if-text in
     let if2 = c.if-bindings in
     let the-read = c.read in
     after_read _ _
     (bindings_wrong args.text.now args.bindings.now (replicate 96 0) if1.false if2.false (search rules) _ the-read.ensures.answer
-    c.in-Wrong.is)
+    c.in-Err-Wrong.is)
 
-pub returns-in-NoRoom : goal.returns-in-NoRoom
-returns-in-NoRoom c =
+pub returns-in-Err-NoRoom : goal.returns-in-Err-NoRoom
+returns-in-Err-NoRoom c =
     let args = c.args in
     let if1 = c.if-text in
     let if2 = c.if-bindings in
     let the-read = c.read in
     absurd
     (never_no_room args.text.now args.bindings.now (replicate 96 0) if1.false if2.false (search rules) the-read.ensures.answer
-    c.in-NoRoom.is)
+    c.in-Err-NoRoom.is)
