@@ -8,11 +8,11 @@ use native.Mathlib.Numerals.{add-one}
 use lib.Dec.{eqb}
 use lib.ListN.{length, drop, get_or, drop_of_length-le}
 use lib.Seq.{drop-cons}
-use borrow.Author.Tests.{le-ltb, eq-eqb, ne_eqb}
-use Rattle.language.specs.Words.{fixed, over, apart, word, wrong, bytes, begins, span, digit, name_byte, digit_of, digit_in, gap, base_of, named_next, quote_next, sign_next, number_next, name_next, next}
+use borrow.Author.Tests.{eq-eqb, ne_eqb}
+use Rattle.language.specs.Words.{fixed, over, apart, word, wrong, bytes, begins, span, digit, name_byte, digit_in, gap, base_of, named_next, quote_next, sign_next, number_next, name_next, next}
 use Rattle.signs.specs.Kinds.{kind_in, spelled_words, numbers_of}
-use Rattle.signs.specs.Tells.{Tells, is_word, is_apart}
-use Rattle.signs.specs.declared.Item.TheVariants.{Word as IsWord, Apart}
+use Rattle.signs.specs.Tells.{Tells, is_word, is_wrong, is_over, is_apart}
+use Rattle.signs.specs.declared.Item.TheVariants.{Word as IsWord, Apart, Wrong}
 
 and_false : (t : Bool) → (t && false) ≡ false
 and_false true = refl
@@ -24,11 +24,6 @@ empty (a ∷ l) e = absurd (omega (arith, e))
 
 -- ---- `'` words
 
-span_zero : (r : List ℕ) → span (digit_in 0) r ≡ []
-unfolding span digit_in
-span_zero [] = refl
-span_zero (b ∷ r) = simp (span, digit_in, le-ltb (digit_of b) 0 (omega arith), and_false)
-
 pub quote_over : (text : List ℕ) (x : ℕ) → length text ≤ x → quote_next (drop x text) ≡ wrong
 unfolding quote_next
 quote_over text x h = rw (drop_of_length-le text h)
@@ -37,13 +32,9 @@ pub quote_split : (text : List ℕ) (at : ℕ) → at + 1 < length text → drop
 quote_split text at h = let e : suc (at + 1) ≡ at + 2 = omega arith in drop-cons text (at + 1) 0 h ∙ ap (λ (x : ℕ). get_or text (at + 1) 0 ∷ drop x text) e
 
 module _ (b : ℕ) (r : List ℕ) where
-  pub quote_zero : base_of b ≡ 0 → quote_next (b ∷ r) ≡ wrong
-  unfolding quote_next
-  quote_zero e = let s : span (digit_in (base_of b)) r ≡ [] = ap (λ (x : ℕ). span (digit_in x) r) e ∙ span_zero r in simp (quote_next, s) (rw e)
-
-  pub quote_digits : (text : List ℕ) (at n : ℕ) → at + (n + 2) ≤ length text → n ≡ length (span (digit_in (base_of b)) r) → 0 < n → Tells text at (quote_next (b ∷ r)) (IsWord 3 (n + 2) 0)
+  digits_next : (text : List ℕ) (at n : ℕ) → at + (n + 2) ≤ length text → n ≡ length (span (digit_in (base_of b)) r) → 0 < n → Tells text at (quote_next (b ∷ r)) (IsWord 3 (n + 2) 0)
   unfolding quote_next numbers_of
-  quote_digits text at n k e h = go (span (digit_in (base_of b)) r) refl
+  digits_next text at n k e h = go (span (digit_in (base_of b)) r) refl
     where
       go : (l : List ℕ) → span (digit_in (base_of b)) r ≡ l → Tells text at (quote_next (b ∷ r)) (IsWord 3 (n + 2) 0)
       go [] s = absurd (omega (arith, e ∙ ap length s, h))
@@ -54,21 +45,48 @@ module _ (b : ℕ) (r : List ℕ) where
           rw q (simp (quote_next, s) (is_word h' k' (λ p. refl)))
 
   module _ (e : length (span (digit_in (base_of b)) r) ≡ 0) where
-    pub quote_other : (base_of b ≡ 10 → ⊥) → quote_next (b ∷ r) ≡ wrong
+    other_next : (base_of b ≡ 10 → ⊥) → quote_next (b ∷ r) ≡ wrong
     unfolding quote_next
-    quote_other h = simp (quote_next, empty (span (digit_in (base_of b)) r) e) (rw (ne_eqb (base_of b) 10 h))
+    other_next h = simp (quote_next, empty (span (digit_in (base_of b)) r) e) (rw (ne_eqb (base_of b) 10 h))
 
-    pub quote_unnamed : named_next r ≡ false → quote_next (b ∷ r) ≡ wrong
+    unnamed_next : named_next r ≡ false → quote_next (b ∷ r) ≡ wrong
     unfolding quote_next
-    quote_unnamed f = simp (quote_next, empty (span (digit_in (base_of b)) r) e) (rw (f, and_false (eqb (base_of b) 10)))
+    unnamed_next f = simp (quote_next, empty (span (digit_in (base_of b)) r) e) (rw (f, and_false (eqb (base_of b) 10)))
 
-    pub quote_named : base_of b ≡ 10 → named_next r ≡ true → quote_next (b ∷ r) ≡ word 2 (fixed "'d")
+    bare_next : base_of b ≡ 10 → named_next r ≡ true → quote_next (b ∷ r) ≡ word 2 (fixed "'d")
     unfolding quote_next
-    quote_named q f = simp (quote_next, empty (span (digit_in (base_of b)) r) e) (rw (q, f))
+    bare_next q f = simp (quote_next, empty (span (digit_in (base_of b)) r) e) (rw (q, f))
 
-pub bare_numbers : (p : ℕ) → numbers_of (fixed "'d" p) ≡ 23 ∷ p ∷ 2 ∷ 0 ∷ []
+bare_numbers : (p : ℕ) → numbers_of (fixed "'d" p) ≡ 23 ∷ p ∷ 2 ∷ 0 ∷ []
 unfolding numbers_of kind_in spelled_words bytes
 bare_numbers p = refl
+
+module _ (text : List ℕ) (at : ℕ) where
+  pub quote_wrong : length text ≤ at + 1 → Tells text at (quote_next (drop (at + 1) text)) Wrong
+  quote_wrong h = rw (quote_over text (at + 1) h) is_wrong
+
+  module _ (h : at + 1 < length text) where
+    pub quote_digits : (n : ℕ) → at + 2 + n ≤ length text → n ≡ length (span (digit_in (base_of (get_or text (at + 1) 0))) (drop (at + 2) text)) → 0 < n → Tells text at (quote_next (drop (at + 1) text)) (IsWord 3 (n + 2) 0)
+    quote_digits n k e z = rw (quote_split text at h) (digits_next _ (drop (at + 2) text) text at n (omega arith) e z)
+
+    -- no digits of the base stand there
+    module _ (base n : ℕ) (q : base ≡ base_of (get_or text (at + 1) 0)) (d : n ≡ length (span (digit_in base) (drop (at + 2) text))) (z : n ≤ 0) where
+      none : length (span (digit_in (base_of (get_or text (at + 1) 0))) (drop (at + 2) text)) ≡ 0
+      none = rw (← q) (omega arith)
+
+      pub quote_other : (base ≡ 10 → ⊥) → Tells text at (quote_next (drop (at + 1) text)) Wrong
+      quote_other b = rw (quote_split text at h, other_next _ (drop (at + 2) text) none (λ k. b (q ∙ k))) is_wrong
+
+      pub quote_unnamed : named_next (drop (at + 2) text) ≡ false → Tells text at (quote_next (drop (at + 1) text)) Wrong
+      quote_unnamed f = rw (quote_split text at h, unnamed_next _ (drop (at + 2) text) none f) is_wrong
+
+      pub quote_named : base ≡ 10 → named_next (drop (at + 2) text) ≡ true → Tells text at (quote_next (drop (at + 1) text)) (IsWord 23 2 0)
+      quote_named b f =
+          let o : 0 < 2 = omega arith in
+          let k : at + 2 ≤ length text = omega arith in
+          rw (quote_split text at h, bare_next _ (drop (at + 2) text) none (sym q ∙ b) f) (is_word o k bare_numbers)
+
+pub ruleset quote_laws = (quote_wrong, quote_digits)
 
 -- ---- what stands first
 
@@ -108,3 +126,7 @@ module _ (text : List ℕ) (at : ℕ) (h : at < length text) where
           pub next_sign : begins (47 ∷ 42 ∷ []) (drop at text) ≡ false → next (drop at text) ≡ sign_next (drop at text)
           unfolding next bytes
           next_sign o = rw (drop-cons text at 0 h) (simp (next, rw (drop-cons text at 0 h) at g, e, f, ne_eqb _ _ q, rw (drop-cons text at 0 h) at o))
+
+pub ruleset word_laws = (next_number, next_name, next_quote, next_open, next_sign, is_wrong)
+
+pub ruleset next_laws = (next_over, apart_tells, is_over)

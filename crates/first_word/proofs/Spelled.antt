@@ -3,13 +3,13 @@ use mathlib.Core.Path.{◌≡◌, refl, sym, ap, ◌∙◌}
 use mathlib.Core.Bool.{Bool, true, false, not, ◌&&◌, ◌||◌}
 use mathlib.Core.List.{List, [], ◌∷◌, ◌++◌}
 use mathlib.Core.Option.{Option, none, some}
-use Prim.Native.Nat.{ℕ, suc, ◌+◌, ◌-◌, ◌≤◌, ◌<◌}
+use Prim.Native.Nat.{ℕ, suc, ◌+◌, ◌≤◌, ◌<◌}
 use Prim.Native.String.{String}
 use native.Mathlib.Omega.{arith}
 use native.Mathlib.Nat.{not-suc-le-zero}
 use lib.Dec.{ltb, eqb, T}
 use lib.Text.{eqt, eqt→eq}
-use lib.ListN.{length, take, drop, get_or}
+use lib.ListN.{length, drop, get_or, drop_of_length-le, length-drop}
 use lib.Seq.{drop-cons}
 use borrow.Author.Tests.{lt-ltb, le-ltb, eqb-true, ltb-true}
 use Rattle.language.specs.Text.{same, index, among}
@@ -18,10 +18,11 @@ use Rattle.spelling.proofs.Laws.{all_below, below_all, rows_many, among_index, n
 use Rattle.spelling.specs.Fixed.{fixed_names, row_of}
 use Rattle.signs.specs.Kinds.{kind_in, spelled_words, numbers_of}
 use Rattle.signs.specs.Signs.{row_kind}
-use Rattle.spans.specs.Spans.{test_of}
-use Rattle.signs.specs.Tells.{Tells, is_word}
-use Rattle.signs.specs.declared.Item.TheVariants.{Word as IsWord}
-use Rattle.spans.proofs.Spans.{span_taken}
+use Rattle.signs.specs.Tells.{Tells, is_word, is_wrong}
+use Rattle.signs.specs.declared.Item.TheVariants.{Word as IsWord, Wrong}
+use Rattle.gaps.specs.Gaps.{AfterGaps}
+use Rattle.spans.proofs.Spans.{span_next, span_std}
+use Rattle.std.proofs.lemmas.List.Sums.{prefix_len-le-length}
 
 not_is : (a : Bool) → not a ≡ true → a ≡ false
 not_is true e = never (sym e)
@@ -192,37 +193,55 @@ name_own text at n run h l e k g =
     let l' : at + length run ≤ length text = omega arith in
     rw e (simp (name_next, o) (is_word h' l' (λ p. refl)))
 
--- the run as a part of the text
-pub run_is : (text : List ℕ) (at n : ℕ) → n ≡ length (span (test_of 1) (drop at text)) → take (at + n - at) (drop at text) ≡ span name_byte (drop at text)
-unfolding test_of
-run_is text at n e =
-    let z : at + n - at ≡ length (span name_byte (drop at text)) = omega (arith, e) in
-    rw z (span_taken name_byte (drop at text))
-
--- what is spelled as a row is no name
-pub own_none : (text : List ℕ) (at n row : ℕ) → n ≡ length (span (test_of 1) (drop at text)) → row ≡ index (spellings fixed_names) (take (at + n - at) (drop at text)) → row < 21 → false ≡ own_name (span name_byte (drop at text))
-own_none text at n row e k h = let i = ap (index (spellings fixed_names)) (run_is text at n e) in sym (own_fixed _ (omega (arith, i, k)))
-
 pub span_head : (t : ℕ → Bool) (text : List ℕ) (at : ℕ) → at < length text → t (get_or text at 0) ≡ true → get_or (span t (drop at text)) 0 0 ≡ get_or text at 0
 unfolding span
 span_head t text at h e = rw (drop-cons text at 0 h) (simp (span, e))
 
+-- ---- the run of name bytes at a place
+
+module _ (text run : List ℕ) (at : ℕ) (h : at < length text) (b : name_byte (get_or text at 0) ≡ true) (e : run ≡ span name_byte (drop at text)) where
+  some_long : 0 < length run
+  some_long = omega (arith, ap length e, span_next name_byte text at h b)
+
+  inside : at + length run ≤ length text
+  inside = omega (arith, ap length e, span_std name_byte (drop at text), prefix_len-le-length name_byte (drop at text), length-drop at text)
+
+  pub name_row : (k r : ℕ) → k ≡ index (spellings fixed_names) run → k < 21 → r ≡ row_kind k → Tells text at (name_next (span name_byte (drop at text))) (IsWord r (length run) 0)
+  name_row k r i l q = rw (← e, q) (name_fixed text at (length run) k run some_long inside refl i l)
+
+  pub name_good : 21 ≤ index (spellings fixed_names) run → good_name run ≡ true → Tells text at (name_next (span name_byte (drop at text))) (IsWord 2 (length run) 0)
+  name_good k g = rw (← e) (name_own text at (length run) run some_long inside refl k g)
+
+  pub name_bad : 21 ≤ index (spellings fixed_names) run → good_name run ≡ false → Tells text at (name_next (span name_byte (drop at text))) Wrong
+  name_bad k g =
+      let f : name_byte (get_or run 0 0) ≡ true = ap (λ (l : List ℕ). name_byte (get_or l 0 0)) e ∙ ap name_byte (span_head name_byte text at h b) ∙ b in
+      let w = name_wrong run k g f in
+      rw (← e, w) is_wrong
+
+pub ruleset name_laws = (name_row, name_good, name_bad)
+
 -- ---- a name after separators
 
-module _ (r : List ℕ) where
-  pub named_none : gap r ≡ 0 → named_next r ≡ false
+named_none : (r : List ℕ) → gap r ≡ 0 → named_next r ≡ false
+unfolding named_next
+named_none r e = simp (named_next, e)
+
+module _ (r : List ℕ) (h : 0 < gap r) where
+  named_over : after_gaps (length r) r ≡ [] → named_next r ≡ false
   unfolding named_next
-  named_none e = simp (named_next, e)
+  named_over e = simp (named_next, lt-ltb _ _ h, e)
 
-  module _ (h : 0 < gap r) where
-    pub named_over : after_gaps (length r) r ≡ [] → named_next r ≡ false
-    unfolding named_next
-    named_over e = simp (named_next, lt-ltb _ _ h, e)
+  named_some : {b : ℕ} {bs : List ℕ} → after_gaps (length r) r ≡ b ∷ bs → named_next r ≡ (not (digit b) && own_name (span name_byte (b ∷ bs)))
+  unfolding named_next
+  named_some e = simp (named_next, lt-ltb _ _ h, e)
 
-    pub named_some : {b : ℕ} {bs : List ℕ} → after_gaps (length r) r ≡ b ∷ bs → named_next r ≡ (not (digit b) && own_name (span name_byte (b ∷ bs)))
-    unfolding named_next
-    named_some e = simp (named_next, lt-ltb _ _ h, e)
+module _ (text : List ℕ) (at p : ℕ) (w : AfterGaps text at p) where
+  pub named_gap : gap (drop at text) ≡ 0 → named_next (drop at text) ≡ false
+  named_gap e = named_none (drop at text) e
 
-pub kind_low : (row : ℕ) → row < 18 → 4 + row ≡ row_kind row
-unfolding row_kind
-kind_low row h = simp (row_kind, lt-ltb _ _ h)
+  module _ (h : 0 < gap (drop at text)) where
+    pub named_end : length text ≤ p → named_next (drop at text) ≡ false
+    named_end k = named_over (drop at text) h (w.is ∙ drop_of_length-le text k)
+
+    pub named_here : p < length text → named_next (drop at text) ≡ (not (digit (get_or text p 0)) && own_name (span name_byte (drop p text)))
+    named_here k = named_some (drop at text) h (w.is ∙ drop-cons text p 0 k) ∙ rw (drop-cons text p 0 k)

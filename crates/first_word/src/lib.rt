@@ -10,19 +10,22 @@ ghost use Rattle.signs.specs.Signs.{row_kind};
 ghost use Rattle.signs.specs.Tells.{Tells};
 
 use signs::{Item, kinds};
+use spans::Class;
+
+// The run of name bytes at a place.
+fn run_at(text: &[u8], at: usize) -> &[u8]
+    ensures { result.now ≡ span_of name_byte (drop at text.now) }
+{
+    spans::part(text, at, spans::run(text, at))
+}
 
 // Whether a name stands at a place, and no keyword nor a word of row 4.
-#[tactic(auto, using(crate::proofs::Spelled::own_none))]
+#[tactic(auto, using(crate::proofs::Spelled::own_fixed, crate::proofs::Spelled::own_other))]
 fn own_name(text: &[u8], at: usize) -> bool
-    requires { at ≤ length text.now }
     ensures { result ≡ own_name (span_of name_byte (drop at text.now)) }
 {
-    let end = at + spans::span(text, at, spans::NAME);
-    let run = &text[at..end];
-    if spelling::spelled(run) < spelling::FIXED {
-        return false;
-    }
-    spelling::good_name(run)
+    let run = run_at(text, at);
+    spelling::FIXED <= spelling::spelled(run) && spelling::good_name(run)
 }
 
 // Whether separators stand at a place, and after them a name.
@@ -30,20 +33,12 @@ fn named(text: &[u8], at: usize) -> bool
     requires { at ≤ length text.now }
     ensures { result ≡ named_next (drop at text.now) }
 {
-    if gaps::gap(text, at) == 0 {
-        return false;
-    }
     let p = gaps::after_gaps(text, at);
-    if text.len() <= p {
-        return false;
-    }
-    if spelling::is_digit(text[p]) {
-        return false;
-    }
-    own_name(text, p)
+    gaps::gap(text, at) != 0 && p < text.len() && !spelling::is_digit(text[p]) && own_name(text, p)
 }
 
 // The kind of a fixed word that is spelled like a name.
+#[tactic(auto, using(std::proofs::lemmas::Bool::Decides::nat_tests), unfolding(signs::specs::Signs::row_kind))]
 fn row_kind(row: usize) -> u32
     requires { row < fixed_rows }
     ensures { result ≡ row_kind row }
@@ -57,25 +52,25 @@ fn row_kind(row: usize) -> u32
 }
 
 // A name, a keyword, the default mark or a word of row 4.
+#[tactic(auto, using(crate::proofs::Spelled::name_laws))]
 fn name(text: &[u8], at: usize) -> Item
     requires at_in_bounds { at < length text.now }
     requires at_value { name_byte (get_or text.now at 0) ≡ true }
     ensures { Tells text.now at (name_next (span_of name_byte (drop at text.now))) result }
 {
-    let n = spans::span(text, at, spans::NAME);
-    let end = at + n;
-    let run = &text[at..end];
+    let run = run_at(text, at);
     let row = spelling::spelled(run);
     if row < spelling::FIXED {
-        return Item::Word(row_kind(row), n, 0);
+        Item::Word(row_kind(row), run.len(), 0)
+    } else if spelling::good_name(run) {
+        Item::Word(kinds::NAME, run.len(), 0)
+    } else {
+        Item::Wrong
     }
-    if spelling::good_name(run) {
-        return Item::Word(kinds::NAME, n, 0);
-    }
-    Item::Wrong
 }
 
 // The word at a `'`.
+#[tactic(auto, using(crate::proofs::Parts::quote_laws), unfolding(spans::specs::Spans::test_of))]
 fn quote(text: &[u8], at: usize) -> Item
     requires { at < length text.now }
     ensures { Tells text.now at (quote_next (drop (at + 1) text.now)) result }
@@ -84,45 +79,39 @@ fn quote(text: &[u8], at: usize) -> Item
         return Item::Wrong;
     }
     let base = sized_constants::base(text[at + 1]);
-    if base == 0 {
-        return Item::Wrong;
-    }
-    let n = spans::span(text, at + 2, base);
+    let n = spans::span(text, at + 2, Class::Digits(base));
     if 0 < n {
-        return Item::Word(kinds::DIGITS, n + 2, 0);
+        Item::Word(kinds::DIGITS, n + 2, 0)
+    } else if base == 10 && named(text, at + 2) {
+        Item::Word(kinds::VALUE, 2, 0)
+    } else {
+        Item::Wrong
     }
-    if base != 10 {
-        return Item::Wrong;
-    }
-    if named(text, at + 2) {
-        return Item::Word(kinds::VALUE, 2, 0);
-    }
-    Item::Wrong
 }
 
 // What stands first at a place that is no separator and not the end.
+#[tactic(auto, using(crate::proofs::Parts::word_laws))]
 fn word(text: &[u8], at: usize) -> Item
     requires { (at < length text.now) × (gap_of (drop at text.now) ≡ 0) }
     ensures { Tells text.now at (next_of (drop at text.now)) result }
 {
     let b = text[at];
     if spelling::is_digit(b) {
-        return plain_numbers::number(text, at);
+        plain_numbers::number(text, at)
+    } else if spelling::is_name_byte(b) {
+        name(text, at)
+    } else if b == b'\'' {
+        quote(text, at)
+    } else if spans::pair(text, at, b'/', b'*') {
+        // a comment that is left open
+        Item::Wrong
+    } else {
+        signs::sign(text, at)
     }
-    if spelling::is_name_byte(b) {
-        return name(text, at);
-    }
-    if b == b'\'' {
-        return quote(text, at);
-    }
-    // a comment that is left open
-    if spans::pair(text, at, b'/', b'*') {
-        return Item::Wrong;
-    }
-    signs::sign(text, at)
 }
 
 // What stands first at a place.
+#[tactic(auto, using(crate::proofs::Parts::next_laws))]
 pub fn next(text: &[u8], at: usize) -> Item
     requires { at ≤ length text.now }
     ensures { Tells text.now at (next_of (drop at text.now)) result }
@@ -130,9 +119,8 @@ pub fn next(text: &[u8], at: usize) -> Item
     if text.len() <= at {
         return Item::Over;
     }
-    let n = gaps::gap(text, at);
-    if 0 < n {
-        return Item::Apart(n);
+    match gaps::gap(text, at) {
+        0 => word(text, at),
+        n => Item::Apart(n),
     }
-    word(text, at)
 }
