@@ -312,8 +312,11 @@ module _ {text : List ℕ} {ms : List (List ℕ)} {w : List ℕ} {ws : List Word
   pub expect_found : {S : Type 0} {x y : ℕ} (g : ℕ → List Word → Res S) → Finds w x j y → expect s (drop x ws) g ≡ g (place_at w x) (drop y ws)
   expect_found {x = x} {y = y} g f = expect_at M s j x sp y g f.kind f.next
 
+  pub expect_lacks : {S : Type 0} {x i : ℕ} (g : ℕ → List Word → Res S) → Lacks w x j i → expect s (drop x ws) g ≡ bad (drop i ws)
+  expect_lacks {x = x} g f = expect_bad M s j x sp g f.kind ∙ ap (λ (y : ℕ). bad (drop y ws)) (sym f.stays)
+
   pub expect_missed : {B : Type 0} {fl : B → List ℕ} {x n : ℕ} {e : Misfit} {t t' : List ℕ} (g : ℕ → List Word → Res B) → Lacks w x j e.at → Agrees fl ws n t (expect s (drop x ws) g) (Err e) t'
-  expect_missed {x = x} g f = rw (expect_bad M s j x sp g f.kind, ← f.stays) fault
+  expect_missed g f = rw (expect_lacks g f) fault
 
   -- what a reader reads, and then the word
   module _ {A B : Type 0} {fl : A → List ℕ} {fl' : B → List ℕ} (u : Res A) (g : A → ℕ → List Word → Res B) {n b : ℕ} {t t₁ s₀ t' : List ℕ} where

@@ -16,7 +16,8 @@ use Rattle.words.specs.Table.{word_of}
 use Rattle.tape.specs.Tape.{one_if}
 use Rattle.readers.specs.Marks.{kind_at, place_at, long_at, value_at, numeral_at, name_at, Marked, the_p}
 use Rattle.rule_reader.specs.Rules.{figure_p}
-use Rattle.readers.proofs.Spells.{word, on_miss, name_miss, on_p, off_p, expect_at, expect_bad}
+use Rattle.readers.proofs.Spells.{word, word_found, on_miss, name_miss, on_p, off_p, expect_found, expect_lacks}
+use Rattle.readers.specs.Meets.{Finds, Lacks}
 use Rattle.readers.proofs.Fixed.{s_dot}
 
 figure_miss : (text : List ℕ) (p l v figure k : ℕ) → (k ≡ 1 → ⊥) → is_figure figure (word_of text k p l v) ≡ none
@@ -77,9 +78,9 @@ module _ {text : List ℕ} {ms : List (List ℕ)} {w : List ℕ} {ws : List Word
     unfolding figure_p
     figure_off h k = off_figure 1 _ _ k (h 1 (omega arith)) ∙ off_figure 0 _ _ k (h 0 (omega arith))
 
-    pub figure_kind : (kind_at w x ≡ 1 → ⊥) → figure_p n (drop x ws) ≡ bad (drop x ws)
+    pub figure_kind : {i : ℕ} → Lacks w x 1 i → figure_p n (drop x ws) ≡ bad (drop i ws)
     unfolding figure_p
-    figure_kind k = on_miss M (is_figure 1) _ _ x (λ p l v. figure_miss text p l v 1 _ k) ∙ on_miss M (is_figure 0) _ _ x (λ p l v. figure_miss text p l v 0 _ k)
+    figure_kind k = on_miss M (is_figure 1) _ _ x (λ p l v. figure_miss text p l v 1 _ k.kind) ∙ on_miss M (is_figure 0) _ _ x (λ p l v. figure_miss text p l v 0 _ k.kind) ∙ ap (λ (y : ℕ). bad (drop y ws)) (sym k.stays)
 
     pub figure_long : kind_at w x ≡ 1 → (long_at w x ≡ 1 → ⊥) → figure_p n (drop x ws) ≡ bad (drop x ws)
     figure_long k l = figure_off (λ v h. figure_longer v _ l) k
@@ -92,35 +93,35 @@ module _ {text : List ℕ} {ms : List (List ℕ)} {w : List ℕ} {ws : List Word
 
 -- an entry up to its figure
 module _ {text : List ℕ} {ms : List (List ℕ)} {w : List ℕ} {ws : List Word} (M : Marked text ms w ws) (f at : ℕ) where
-  pub entry_none : (kind_at w at ≡ 2 → ⊥) → entry_p f (drop at ws) ≡ bad (drop at ws)
+  pub entry_none : {i : ℕ} → Lacks w at 2 i → entry_p f (drop at ws) ≡ bad (drop i ws)
   unfolding entry_p
-  entry_none h = on_miss M is_name _ _ at (λ p l v. name_miss text p l v _ h)
+  entry_none h = on_miss M is_name _ _ at (λ p l v. name_miss text p l v _ h.kind) ∙ ap (λ (y : ℕ). bad (drop y ws)) (sym h.stays)
 
-  module _ (k : kind_at w at ≡ 2) where
+  module _ {x : ℕ} (k : Finds w at 2 x) where
     entry_name : entry_p f (drop at ws)
-        ≡ expect "." (drop (at + 1) ws) (λ p x. on (is_the "p") x (λ q y. expect "." y (λ s z. figure_p (name_at text w at) z)) (λ x. bad x))
+        ≡ expect "." (drop x ws) (λ p x. on (is_the "p") x (λ q y. expect "." y (λ s z. figure_p (name_at text w at) z)) (λ x. bad x))
     unfolding entry_p figure_p on is_name word_of
-    entry_name = ap (entry_p f) (word M at 2 (omega arith) k)
+    entry_name = ap (entry_p f) (word_found M at 2 (omega arith) k)
 
-    pub entry_dot : (kind_at w (at + 1) ≡ 46 → ⊥) → entry_p f (drop at ws) ≡ bad (drop (at + 1) ws)
-    entry_dot d = entry_name ∙ expect_bad M "." 46 (at + 1) s_dot _ d
+    pub entry_dot : {i : ℕ} → Lacks w x 46 i → entry_p f (drop at ws) ≡ bad (drop i ws)
+    entry_dot d = entry_name ∙ expect_lacks M s_dot _ d
 
-    module _ (d : kind_at w (at + 1) ≡ 46) where
-      entry_pointed : entry_p f (drop at ws) ≡ on (is_the "p") (drop (at + 2) ws) (λ q y. expect "." y (λ s z. figure_p (name_at text w at) z)) (λ x. bad x)
-      entry_pointed = entry_name ∙ expect_at M "." 46 (at + 1) s_dot (at + 2) _ d (omega arith)
+    module _ {y : ℕ} (d : Finds w x 46 y) where
+      entry_pointed : entry_p f (drop at ws) ≡ on (is_the "p") (drop y ws) (λ q y. expect "." y (λ s z. figure_p (name_at text w at) z)) (λ x. bad x)
+      entry_pointed = entry_name ∙ expect_found M s_dot _ d
 
-      pub entry_p_law : the_p w (at + 2) ≡ false → entry_p f (drop at ws) ≡ bad (drop (at + 2) ws)
-      entry_p_law e = entry_pointed ∙ off_p M (at + 2) _ _ e
+      pub entry_p_law : the_p w y ≡ false → entry_p f (drop at ws) ≡ bad (drop y ws)
+      entry_p_law e = entry_pointed ∙ off_p M y _ _ e
 
-      module _ (e : the_p w (at + 2) ≡ true) where
-        entry_second_dot : entry_p f (drop at ws) ≡ expect "." (drop (at + 3) ws) (λ s z. figure_p (name_at text w at) z)
-        entry_second_dot = entry_pointed ∙ on_p M (at + 2) _ _ e ∙ ap (λ (y : ℕ). expect "." (drop y ws) (λ s z. figure_p (name_at text w at) z)) three
+      module _ (e : the_p w y ≡ true) where
+        entry_second_dot : entry_p f (drop at ws) ≡ expect "." (drop (y + 1) ws) (λ s z. figure_p (name_at text w at) z)
+        entry_second_dot = entry_pointed ∙ on_p M y _ _ e
+
+        pub entry_second : {i : ℕ} → Lacks w (y + 1) 46 i → entry_p f (drop at ws) ≡ bad (drop i ws)
+        entry_second d₂ = entry_second_dot ∙ expect_lacks M s_dot _ d₂
+
+        pub entry_figure : {z : ℕ} → Finds w (y + 1) 46 z → entry_p f (drop at ws) ≡ figure_p (name_at text w at) (drop (at + 4) ws)
+        entry_figure {z} d₂ = entry_second_dot ∙ expect_found M s_dot _ d₂ ∙ ap (λ (z : ℕ). figure_p (name_at text w at) (drop z ws)) four
           where
-            three : at + 2 + 1 ≡ at + 3
-            three = omega arith
-
-        pub entry_second : (kind_at w (at + 3) ≡ 46 → ⊥) → entry_p f (drop at ws) ≡ bad (drop (at + 3) ws)
-        entry_second d₂ = entry_second_dot ∙ expect_bad M "." 46 (at + 3) s_dot _ d₂
-
-        pub entry_figure : kind_at w (at + 3) ≡ 46 → entry_p f (drop at ws) ≡ figure_p (name_at text w at) (drop (at + 4) ws)
-        entry_figure d₂ = entry_second_dot ∙ expect_at M "." 46 (at + 3) s_dot (at + 4) _ d₂ (omega arith)
+            four : z ≡ at + 4
+            four = omega (arith, k, d, d₂)

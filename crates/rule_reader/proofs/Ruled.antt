@@ -1,5 +1,5 @@
 -- The laws of rules and groups: how their lists begin, and what each function of the reader of lists is at a word of each kind. Assumes nothing.
-use mathlib.Core.Path.{◌≡◌, refl, ap, ◌∙◌}
+use mathlib.Core.Path.{◌≡◌, refl, sym, ap, ◌∙◌}
 use mathlib.Core.Bool.{Bool, true, false}
 use mathlib.Core.List.{List, [], ◌∷◌}
 use mathlib.Core.Option.{Option, none, some}
@@ -17,13 +17,12 @@ use Rattle.signs.specs.Kinds.{spelled_words}
 use Rattle.words.specs.Table.{word_of}
 use Rattle.tape.specs.Tape.{flats, flat_val, flat_assignment, flat_statement, flat_group}
 use Rattle.readers.specs.Marks.{kind_at, place_at, name_at, Marked, fixed_of}
-use Rattle.readers.specs.Meets.{Agrees, read, fault, Met, Closes, closes, missing, faulty}
+use Rattle.readers.specs.Meets.{Agrees, read, fault, Met, Out, Finds, Lacks}
 use Rattle.rule_reader.specs.States.{IsAssignment, IsVal}
 use Rattle.rule_reader.specs.Rules.{IsScoped}
 use Rattle.rule_reader.specs.Tails.{written_p, body_p}
-use Rattle.readers.specs.declared.Out.{Out}
 use Rattle.readers.proofs.Laws.{on_more}
-use Rattle.readers.proofs.Spells.{Spells, one_or, is_as, is_miss, name_miss, on_is, off_is, expect_at, expect_bad, until_at, until_bad}
+use Rattle.readers.proofs.Spells.{Spells, one_or, is_as, is_miss, name_miss, on_is, off_is, expect_at, expect_bad, expect_found, expect_lacks}
 use Rattle.readers.proofs.Fixed.{s_open, s_and, s_or, s_let, s_val}
 use Rattle.readers.proofs.Lists.{on_none, Begins, Misses, IsItem, some_begins, some_misses}
 
@@ -104,22 +103,15 @@ unfolding bind flats
 one_group (read on) = read (on_more on on_none)
 one_group fault = fault
 
--- what a reader answered, and then a fixed word, is the answer
-pub until_closes : {A : Type 0} {fl : A → List ℕ} {text : List ℕ} {ms : List (List ℕ)} {w : List ℕ} {ws : List Word} (M : Marked text ms w ws) {s : String} {j : ℕ} (sp : Spells s j) {n : ℕ} {t t' : List ℕ} {u : Res A} {o c : Out}
-    → Closes w j o c → Agrees fl ws n t u o t' → Agrees fl ws n t (until u s (λ a p y. ok a y)) c t'
-until_closes M sp (closes e q) a = until_at M sp _ _ refl (closes e q) a (λ v p on. read on)
-until_closes M sp (missing e) a = until_bad M sp _ _ refl (missing e) a
-until_closes M sp faulty a = until_bad M sp _ _ refl faulty a
-
 -- a list of one or more, and then a fixed word
 module _ {A T B : Type 0} {test : Word → Option A} {text : List ℕ} {ms : List (List ℕ)} {w : List ℕ} {ws : List Word} {x : ℕ} (M : Marked text ms w ws)
     (item : ℕ → A → List Word → Res T) (f : ℕ) (s : String) (g : List T → ℕ → List Word → Res B) where
   until_some : {a : List ℕ → A} → Begins test w x a → until (some_p test item f (drop x ws)) s g ≡ until (many_p test item (suc f) (drop x ws)) s g
   until_some b = ap (λ (u : Res (List T)). until u s g) (some_begins M item f b)
 
-  until_none : Misses test w x → until (some_p test item f (drop x ws)) s g ≡ bad (drop x ws)
+  until_none : {i : ℕ} → Misses test w x → i ≡ x → until (some_p test item f (drop x ws)) s g ≡ bad (drop i ws)
   unfolding until bind
-  until_none b = ap (λ (u : Res (List T)). until u s g) (some_misses M item f b)
+  until_none b e = ap (λ (u : Res (List T)). until u s g) (some_misses M item f b) ∙ ap (λ (y : ℕ). bad (drop y ws)) (sym e)
 
 -- ---- the grammar
 
@@ -135,34 +127,33 @@ module _ {text : List ℕ} {ms : List (List ℕ)} {w : List ℕ} {ws : List Word
     unfolding statement_p written_p
     scoped_some e = until_some M _ f "in" _ (is_begins s_val e)
 
-    pub scoped_none : (kind_at w at ≡ 11 → ⊥) → statement_p ms f (opens p) (drop at ws) ≡ bad (drop at ws)
+    pub scoped_none : {i : ℕ} → Lacks w at 11 i → statement_p ms f (opens p) (drop at ws) ≡ bad (drop i ws)
     unfolding statement_p
-    scoped_none h = until_none M _ f "in" _ (is_misses s_val h)
+    scoped_none h = until_none M _ f "in" _ (is_misses s_val h.kind) h.stays
 
   module _ (vs : List Val) where
     pub written_some : kind_at w at ≡ 2 → written_p ms f vs (drop at ws) ≡ until (many_p is_name (λ f n r. assignment_p ms f n r) (suc f) (drop at ws)) "end" (λ l s y. ok (scoped vs l) y)
     unfolding written_p
     written_some e = until_some M _ f "end" _ (name_begins e)
 
-    pub written_none : (kind_at w at ≡ 2 → ⊥) → written_p ms f vs (drop at ws) ≡ bad (drop at ws)
+    pub written_none : {i : ℕ} → Lacks w at 2 i → written_p ms f vs (drop at ws) ≡ bad (drop i ws)
     unfolding written_p
-    written_none h = until_none M _ f "end" _ (name_misses h)
+    written_none h = until_none M _ f "end" _ (name_misses h.kind) h.stays
 
   -- ---- a group, whose `or` stands at `at`
   module _ (p : ℕ) where
-    pub group_open : (kind_at w (at + 1) ≡ 36 → ⊥) → group_p ms f p (drop (at + 1) ws) ≡ bad (drop (at + 1) ws)
+    pub group_open : {i : ℕ} → Lacks w (at + 1) 36 i → group_p ms f p (drop (at + 1) ws) ≡ bad (drop i ws)
     unfolding group_p
-    group_open h = expect_bad M "(" 36 (at + 1) s_open _ h
+    group_open h = expect_lacks M s_open _ h
 
-    module _ (e : kind_at w (at + 1) ≡ 36) where
-      pub group_some : kind_at w (at + 2) ≡ 2
-          → group_p ms f p (drop (at + 1) ws) ≡ until (many_p is_name (λ f n r. rule_p ms f n r) (suc f) (drop (at + 2) ws)) ")" (λ l s x. ok (record { at = p; rules = l }) x)
+    module _ {x : ℕ} (e : Finds w (at + 1) 36 x) where
+      pub group_some : kind_at w x ≡ 2 → group_p ms f p (drop (at + 1) ws) ≡ until (many_p is_name (λ f n r. rule_p ms f n r) (suc f) (drop x ws)) ")" (λ l s x. ok (record { at = p; rules = l }) x)
       unfolding group_p
-      group_some q = expect_at M "(" 36 (at + 1) s_open (at + 2) _ e (omega arith) ∙ until_some M _ f ")" _ (name_begins q)
+      group_some q = expect_found M s_open _ e ∙ until_some M _ f ")" _ (name_begins q)
 
-      pub group_none : (kind_at w (at + 2) ≡ 2 → ⊥) → group_p ms f p (drop (at + 1) ws) ≡ bad (drop (at + 2) ws)
+      pub group_none : {i : ℕ} → Lacks w x 2 i → group_p ms f p (drop (at + 1) ws) ≡ bad (drop i ws)
       unfolding group_p
-      group_none h = expect_at M "(" 36 (at + 1) s_open (at + 2) _ e (omega arith) ∙ until_none M _ f ")" _ (name_misses h)
+      group_none h = expect_found M s_open _ e ∙ until_none M _ f ")" _ (name_misses h.kind) h.stays
 
   -- ---- the constraint
   pub constraint_or : kind_at w at ≡ 9 → constraint_p ms f (drop at ws) ≡ bind (group_p ms f (place_at w at) (drop (at + 1) ws)) (λ g x. ok (g ∷ []) x)
@@ -182,12 +173,12 @@ module _ {text : List ℕ} {ms : List (List ℕ)} {w : List ℕ} {ws : List Word
         other : {k : ℕ} → k ≡ 8 → k ≡ 9 → ⊥
         other p q = omega arith
 
-    pub and_open : (kind_at w (at + 1) ≡ 36 → ⊥) → constraint_p ms f (drop at ws) ≡ bad (drop (at + 1) ws)
-    and_open h = constraint_and ∙ expect_bad M "(" 36 (at + 1) s_open _ h
+    pub and_open : {i : ℕ} → Lacks w (at + 1) 36 i → constraint_p ms f (drop at ws) ≡ bad (drop i ws)
+    and_open h = constraint_and ∙ expect_lacks M s_open _ h
 
-    module _ (q : kind_at w (at + 1) ≡ 36) where
-      pub and_some : kind_at w (at + 2) ≡ 9 → constraint_p ms f (drop at ws) ≡ until (many_p (is "or") (λ f p r. group_p ms f p r) (suc f) (drop (at + 2) ws)) ")" (λ l s y. ok l y)
-      and_some h = constraint_and ∙ expect_at M "(" 36 (at + 1) s_open (at + 2) _ q (omega arith) ∙ until_some M _ f ")" _ (is_begins s_or h)
+    module _ {x : ℕ} (q : Finds w (at + 1) 36 x) where
+      pub and_some : kind_at w x ≡ 9 → constraint_p ms f (drop at ws) ≡ until (many_p (is "or") (λ f p r. group_p ms f p r) (suc f) (drop x ws)) ")" (λ l s y. ok l y)
+      and_some h = constraint_and ∙ expect_found M s_open _ q ∙ until_some M _ f ")" _ (is_begins s_or h)
 
-      pub and_none : (kind_at w (at + 2) ≡ 9 → ⊥) → constraint_p ms f (drop at ws) ≡ bad (drop (at + 2) ws)
-      and_none h = constraint_and ∙ expect_at M "(" 36 (at + 1) s_open (at + 2) _ q (omega arith) ∙ until_none M _ f ")" _ (is_misses s_or h)
+      pub and_none : {i : ℕ} → Lacks w x 9 i → constraint_p ms f (drop at ws) ≡ bad (drop i ws)
+      and_none h = constraint_and ∙ expect_found M s_open _ q ∙ until_none M _ f ")" _ (is_misses s_or h.kind) h.stays

@@ -14,7 +14,8 @@ use Rattle.words.specs.Table.{word_of}
 use Rattle.readers.specs.Marks.{kind_at, value_at, name_at, spelled_at, Marked, is_memory}
 use Rattle.type_reader.proofs.Grammar.{declared_none, declared_some}
 use Rattle.rule_reader.specs.States.{binding_p}
-use Rattle.readers.proofs.Spells.{kind_inside, kind_is, word, on_miss, name_miss}
+use Rattle.readers.proofs.Spells.{kind_inside, kind_is, word_found, on_miss, name_miss}
+use Rattle.readers.specs.Meets.{Finds, Lacks}
 
 module _ {text : List ℕ} {ms : List (List ℕ)} {w : List ℕ} {ws : List Word} (M : Marked text ms w ws) (f at : ℕ) where
   among_at : kind_at w at ≡ 2 → among ms (spelled_at text w at) ≡ is_memory (value_at w at)
@@ -38,11 +39,11 @@ module _ {text : List ℕ} {ms : List (List ℕ)} {w : List ℕ} {ws : List Word
   unfolding val_p binding_p
   val_typed e = declared_some M f at (λ t x. binding_p ms f t x) e
 
-  pub binding_name : (d : Declared) → kind_at w at ≡ 2 → binding_p ms f d (drop at ws)
-      ≡ expect "=" (drop (at + 1) ws) (λ q z. until (expr_p ms f false z) ";" (λ e s l. ok (record { type = d; called = name_at text w at; value = e }) l))
+  pub binding_name : (d : Declared) {y : ℕ} → Finds w at 2 y → binding_p ms f d (drop at ws)
+      ≡ expect "=" (drop y ws) (λ q z. until (expr_p ms f false z) ";" (λ e s l. ok (record { type = d; called = name_at text w at; value = e }) l))
   unfolding binding_p on is_name word_of
-  binding_name d e = ap (binding_p ms f d) (word M at 2 (omega arith) e)
+  binding_name d e = ap (binding_p ms f d) (word_found M at 2 (omega arith) e)
 
-  pub binding_none : (d : Declared) → (kind_at w at ≡ 2 → ⊥) → binding_p ms f d (drop at ws) ≡ bad (drop at ws)
+  pub binding_none : (d : Declared) {i : ℕ} → Lacks w at 2 i → binding_p ms f d (drop at ws) ≡ bad (drop i ws)
   unfolding binding_p
-  binding_none d h = on_miss M is_name _ _ at (λ p l v. name_miss text p l v _ h)
+  binding_none d h = on_miss M is_name _ _ at (λ p l v. name_miss text p l v _ h.kind) ∙ ap (λ (y : ℕ). bad (drop y ws)) (sym h.stays)

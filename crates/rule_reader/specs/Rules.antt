@@ -4,8 +4,7 @@ use Rattle.language.specs.Reader.{is, is_name, many_p, commas_p, Res, ok, bad, o
 use Rattle.language.specs.Parser.{entry_p, opens, is_start, val_p, assignment_p, statement_p, rule_p, group_p, constraint_p}
 use Rattle.tape.specs.Tape.{flats, flat_entry, flat_val, flat_assignment, flat_statement, flat_rule, flat_group}
 use Rattle.readers.specs.Marks.{place_at, name_at}
-use Rattle.readers.specs.Meets.{Met}
-use Rattle.readers.specs.declared.Out.{Out}
+use Rattle.readers.specs.Meets.{Out, Met}
 use Rattle.language.specs.Text.{Name}
 use Rattle.language.specs.Words.{Word}
 use Rattle.language.specs.Tree.{Entry}

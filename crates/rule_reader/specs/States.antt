@@ -6,8 +6,7 @@ use Rattle.language.specs.Reader.{Res, ok, bad, on, is_name, expect, until}
 use Rattle.language.specs.Parser.{expr_p, assignment_p, val_p}
 use Rattle.tape.specs.Tape.{flat_assignment, flat_val, flat_d, is_typed}
 use Rattle.readers.specs.Marks.{count, name_at, Marked}
-use Rattle.readers.specs.Meets.{On, Moved, Agrees, Met}
-use Rattle.readers.specs.declared.Out.{Out}
+use Rattle.readers.specs.Meets.{Out, On, Moved, Agrees, Met}
 
 -- the name stands at `at`, and the answer lies past it
 abbrev pub IsAssignment : List ℕ → ℕ → ℕ → List ℕ → Out → List ℕ → Type 0

@@ -7,8 +7,7 @@ use Rattle.language.specs.Reader.{Res, ok, is_name, until, many_p, some_p}
 use Rattle.language.specs.Parser.{is_start, assignment_p, statement_p}
 use Rattle.tape.specs.Tape.{item, LET, RULE, flats, flat_val, flat_entry, flat_statement, flat_rule}
 use Rattle.readers.specs.Marks.{count, Marked}
-use Rattle.readers.specs.Meets.{On, Moved, Agrees}
-use Rattle.readers.specs.declared.Out.{Out}
+use Rattle.readers.specs.Meets.{Out, On, Moved, Agrees}
 
 -- what follows the `in` of a `let`, as `statement_p` has it
 unfoldable pub written_p : List (List ℕ) → ℕ → List Val → List Word → Res Statement

@@ -13,7 +13,7 @@ ghost use Rattle.rule_reader.specs.Tails.{IsWritten, IsBody};
 
 use crate::lists::entries;
 use crate::statement::{assignment, val};
-use readers::{Out, Table, Tape, closed, emit, kind, put};
+use readers::{Misfit, Out, Table, Tape, emit, expect, kind, put};
 use signs::kinds;
 use tape::{END, GROUPED, LET, OR, RULE, RULED};
 
@@ -22,42 +22,22 @@ fn vals(words: &Table, tape: &mut Tape, at: usize, n: usize) -> Out
     requires { Room words.now at n }
     ensures { IsVals words.now at n tape.old result tape.new }
 {
-    let mut x = at;
-    let mut m = n;
-    loop {
-        let k = kind(words, x);
-        if k != kinds::VAL {
-            return Out::At(x, m);
-        }
-        match val(words, tape, x + 1, m) {
-            Out::At(y, o) => {
-                x = y;
-                m = o;
-            }
-            Out::Bad(i) => return Out::Bad(i),
-        }
+    let (mut x, mut m) = (at, n);
+    while kind(words, x) == kinds::VAL {
+        (x, m) = val(words, tape, x + 1, m)?;
     }
+    Ok((x, m))
 }
 
 fn assignments(words: &Table, tape: &mut Tape, at: usize, n: usize) -> Out
     requires { Room words.now at n }
     ensures { IsAssignments words.now at n tape.old result tape.new }
 {
-    let mut x = at;
-    let mut m = n;
-    loop {
-        let k = kind(words, x);
-        if k != kinds::NAME {
-            return Out::At(x, m);
-        }
-        match assignment(words, tape, x, m) {
-            Out::At(y, o) => {
-                x = y;
-                m = o;
-            }
-            Out::Bad(i) => return Out::Bad(i),
-        }
+    let (mut x, mut m) = (at, n);
+    while kind(words, x) == kinds::NAME {
+        (x, m) = assignment(words, tape, x, m)?;
     }
+    Ok((x, m))
 }
 
 // `let` with its `val`s, then `in` and what it ends with.
@@ -65,16 +45,11 @@ fn scoped(words: &Table, tape: &mut Tape, at: usize, n: usize) -> Out
     requires { Starts words.now at n let_kind }
     ensures { IsScoped words.now at n tape.old result tape.new }
 {
-    let k = kind(words, at + 1);
-    if k != kinds::VAL {
-        return Out::Bad(at + 1);
-    }
+    expect(words, at + 1, kinds::VAL)?;
     let m = emit(tape, n, LET, 0);
-    let o = vals(words, tape, at + 1, m);
-    match closed(words, o, kinds::IN) {
-        Out::At(x, q) => written(words, tape, x, q),
-        Out::Bad(i) => Out::Bad(i),
-    }
+    let (x, q) = vals(words, tape, at + 1, m)?;
+    let y = expect(words, x, kinds::IN)?;
+    written(words, tape, y, q)
 }
 
 // The assignments of a `let` whose `val`s are on the tape, and `end`.
@@ -82,40 +57,23 @@ fn written(words: &Table, tape: &mut Tape, at: usize, n: usize) -> Out
     requires { Room words.now at n }
     ensures { IsWritten words.now at n tape.old result tape.new }
 {
-    let k = kind(words, at);
-    if k != kinds::NAME {
-        return Out::Bad(at);
-    }
-    let o = assignments(words, tape, at, n);
-    match closed(words, o, kinds::END) {
-        Out::At(x, m) => {
-            let q = emit(tape, m, END, 0);
-            Out::At(x, q)
-        }
-        Out::Bad(i) => Out::Bad(i),
-    }
+    expect(words, at, kinds::NAME)?;
+    let (x, m) = assignments(words, tape, at, n)?;
+    let y = expect(words, x, kinds::END)?;
+    Ok((y, emit(tape, m, END, 0)))
 }
 
 fn statements(words: &Table, tape: &mut Tape, at: usize, n: usize) -> Out
     requires { Room words.now at n }
     ensures { IsStatements words.now at n tape.old result tape.new }
 {
-    let mut x = at;
-    let mut m = n;
+    let (mut x, mut m) = (at, n);
     loop {
-        let k = kind(words, x);
-        let s = match k {
-            kinds::NAME => assignment(words, tape, x, m),
-            kinds::LET => scoped(words, tape, x, m),
-            _ => return Out::At(x, m),
+        (x, m) = match kind(words, x) {
+            kinds::NAME => assignment(words, tape, x, m)?,
+            kinds::LET => scoped(words, tape, x, m)?,
+            _ => return Ok((x, m)),
         };
-        match s {
-            Out::At(y, o) => {
-                x = y;
-                m = o;
-            }
-            Out::Bad(i) => return Out::Bad(i),
-        }
     }
 }
 
@@ -124,17 +82,12 @@ fn rule(words: &Table, tape: &mut Tape, at: usize, n: usize) -> Out
     requires { Starts words.now at n name_kind }
     ensures { IsRule words.now at n tape.old result tape.new }
 {
-    let k = kind(words, at + 1);
-    if k != kinds::OPEN {
-        return Out::Bad(at + 1);
-    }
+    let x = expect(words, at + 1, kinds::OPEN)?;
     let m = put(words, tape, at, n, RULE, 0);
-    let o = entries(words, tape, at + 2, m);
-    let c = closed(words, o, kinds::CLOSE);
-    match closed(words, c, kinds::BRACE) {
-        Out::At(x, q) => body(words, tape, x, q),
-        Out::Bad(i) => Out::Bad(i),
-    }
+    let (y, o) = entries(words, tape, x, m)?;
+    let z = expect(words, y, kinds::CLOSE)?;
+    let first = expect(words, z, kinds::BRACE)?;
+    body(words, tape, first, o)
 }
 
 // The statements of a rule whose entries are on the tape, and `}`.
@@ -142,35 +95,20 @@ fn body(words: &Table, tape: &mut Tape, at: usize, n: usize) -> Out
     requires { Room words.now at n }
     ensures { IsBody words.now at n tape.old result tape.new }
 {
-    let o = statements(words, tape, at, n);
-    match closed(words, o, kinds::UNBRACE) {
-        Out::At(x, m) => {
-            let q = emit(tape, m, RULED, 0);
-            Out::At(x, q)
-        }
-        Out::Bad(i) => Out::Bad(i),
-    }
+    let (x, m) = statements(words, tape, at, n)?;
+    let y = expect(words, x, kinds::UNBRACE)?;
+    Ok((y, emit(tape, m, RULED, 0)))
 }
 
 fn rules(words: &Table, tape: &mut Tape, at: usize, n: usize) -> Out
     requires { Room words.now at n }
     ensures { IsRules words.now at n tape.old result tape.new }
 {
-    let mut x = at;
-    let mut m = n;
-    loop {
-        let k = kind(words, x);
-        if k != kinds::NAME {
-            return Out::At(x, m);
-        }
-        match rule(words, tape, x, m) {
-            Out::At(y, o) => {
-                x = y;
-                m = o;
-            }
-            Out::Bad(i) => return Out::Bad(i),
-        }
+    let (mut x, mut m) = (at, n);
+    while kind(words, x) == kinds::NAME {
+        (x, m) = rule(words, tape, x, m)?;
     }
+    Ok((x, m))
 }
 
 // A group: `or` and its rules in parentheses.
@@ -178,44 +116,23 @@ fn group(words: &Table, tape: &mut Tape, at: usize, n: usize) -> Out
     requires { Starts words.now at n or_kind }
     ensures { IsGroup words.now at n tape.old result tape.new }
 {
-    let k = kind(words, at + 1);
-    if k != kinds::OPEN {
-        return Out::Bad(at + 1);
-    }
-    let name = kind(words, at + 2);
-    if name != kinds::NAME {
-        return Out::Bad(at + 2);
-    }
+    let x = expect(words, at + 1, kinds::OPEN)?;
+    expect(words, x, kinds::NAME)?;
     let m = put(words, tape, at, n, OR, 0);
-    let o = rules(words, tape, at + 2, m);
-    match closed(words, o, kinds::CLOSE) {
-        Out::At(x, q) => {
-            let p = emit(tape, q, GROUPED, 0);
-            Out::At(x, p)
-        }
-        Out::Bad(i) => Out::Bad(i),
-    }
+    let (y, o) = rules(words, tape, x, m)?;
+    let z = expect(words, y, kinds::CLOSE)?;
+    Ok((z, emit(tape, o, GROUPED, 0)))
 }
 
 fn groups(words: &Table, tape: &mut Tape, at: usize, n: usize) -> Out
     requires { Room words.now at n }
     ensures { IsGroups words.now at n tape.old result tape.new }
 {
-    let mut x = at;
-    let mut m = n;
-    loop {
-        let k = kind(words, x);
-        if k != kinds::OR {
-            return Out::At(x, m);
-        }
-        match group(words, tape, x, m) {
-            Out::At(y, o) => {
-                x = y;
-                m = o;
-            }
-            Out::Bad(i) => return Out::Bad(i),
-        }
+    let (mut x, mut m) = (at, n);
+    while kind(words, x) == kinds::OR {
+        (x, m) = group(words, tape, x, m)?;
     }
+    Ok((x, m))
 }
 
 // One group, or an `and` of groups.
@@ -223,11 +140,10 @@ pub fn constraint(words: &Table, tape: &mut Tape, at: usize, n: usize) -> Out
     requires { Room words.now at n }
     ensures { IsConstraint words.now at n tape.old result tape.new }
 {
-    let k = kind(words, at);
-    match k {
+    match kind(words, at) {
         kinds::AND => conjunction(words, tape, at, n),
         kinds::OR => group(words, tape, at, n),
-        _ => Out::Bad(at),
+        _ => Err(Misfit { at }),
     }
 }
 
@@ -236,14 +152,9 @@ fn conjunction(words: &Table, tape: &mut Tape, at: usize, n: usize) -> Out
     requires { Starts words.now at n and_kind }
     ensures { IsConstraint words.now at n tape.old result tape.new }
 {
-    let k = kind(words, at + 1);
-    if k != kinds::OPEN {
-        return Out::Bad(at + 1);
-    }
-    let first = kind(words, at + 2);
-    if first != kinds::OR {
-        return Out::Bad(at + 2);
-    }
-    let o = groups(words, tape, at + 2, n);
-    closed(words, o, kinds::CLOSE)
+    let x = expect(words, at + 1, kinds::OPEN)?;
+    expect(words, x, kinds::OR)?;
+    let (y, m) = groups(words, tape, x, n)?;
+    let z = expect(words, y, kinds::CLOSE)?;
+    Ok((z, m))
 }

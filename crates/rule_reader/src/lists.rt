@@ -3,7 +3,7 @@ ghost use Rattle.std.specs.Prelude.{◌+◌};
 ghost use Rattle.readers.specs.Meets.{Inside, Room};
 ghost use Rattle.rule_reader.specs.Rules.{IsEntries, IsEntry, IsFigure};
 
-use readers::{Out, Table, Tape, kind, long, put, the_p, value};
+use readers::{Misfit, Out, Table, Tape, expect, kind, long, put, the_p, value};
 use signs::kinds;
 use tape::PRESENT;
 
@@ -12,20 +12,13 @@ pub fn entries(words: &Table, tape: &mut Tape, at: usize, n: usize) -> Out
     requires { Room words.now at n }
     ensures { IsEntries words.now at n tape.old result tape.new }
 {
-    let mut x = at;
-    let mut m = n;
+    let (mut x, mut m) = (at, n);
     loop {
-        match entry(words, tape, x, m) {
-            Out::At(y, o) => {
-                let k = kind(words, y);
-                if k != kinds::COMMA {
-                    return Out::At(y, o);
-                }
-                x = y + 1;
-                m = o;
-            }
-            Out::Bad(i) => return Out::Bad(i),
+        (x, m) = entry(words, tape, x, m)?;
+        if kind(words, x) != kinds::COMMA {
+            return Ok((x, m));
         }
+        x += 1;
     }
 }
 
@@ -34,22 +27,12 @@ fn entry(words: &Table, tape: &mut Tape, at: usize, n: usize) -> Out
     requires { Room words.now at n }
     ensures { IsEntry words.now at n tape.old result tape.new }
 {
-    let name = kind(words, at);
-    if name != kinds::NAME {
-        return Out::Bad(at);
+    let x = expect(words, at, kinds::NAME)?;
+    let y = expect(words, x, kinds::DOT)?;
+    if !the_p(words, y) {
+        return Err(Misfit { at: y });
     }
-    let dot = kind(words, at + 1);
-    if dot != kinds::DOT {
-        return Out::Bad(at + 1);
-    }
-    let p = the_p(words, at + 2);
-    if !p {
-        return Out::Bad(at + 2);
-    }
-    let second = kind(words, at + 3);
-    if second != kinds::DOT {
-        return Out::Bad(at + 3);
-    }
+    expect(words, y + 1, kinds::DOT)?;
     figure(words, tape, at, n)
 }
 
@@ -59,18 +42,10 @@ fn figure(words: &Table, tape: &mut Tape, at: usize, n: usize) -> Out
     requires inside { Inside words.now (at + 4) }
     ensures { IsFigure words.now at n tape.old result tape.new }
 {
-    let k = kind(words, at + 4);
-    if k != kinds::NUMBER {
-        return Out::Bad(at + 4);
-    }
-    let l = long(words, at + 4);
-    if l != 1 {
-        return Out::Bad(at + 4);
-    }
+    let x = expect(words, at + 4, kinds::NUMBER)?;
     let v = value(words, at + 4);
-    if v > 1 {
-        return Out::Bad(at + 4);
+    if long(words, at + 4) != 1 || v > 1 {
+        return Err(Misfit { at: at + 4 });
     }
-    let m = put(words, tape, at, n, PRESENT, v);
-    Out::At(at + 5, m)
+    Ok((x, put(words, tape, at, n, PRESENT, v)))
 }

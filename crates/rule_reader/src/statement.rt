@@ -6,7 +6,7 @@ ghost use Rattle.readers.specs.Meets.{Room, Starts};
 ghost use Rattle.rule_reader.specs.States.{IsAssignment, IsBinding, IsVal};
 
 use expression_reader::expr;
-use readers::{Out, Table, Tape, closed, kind, memory, put};
+use readers::{Out, Table, Tape, expect, kind, memory, put};
 use signs::kinds;
 use tape::{ASSIGN, VAL, WRITE};
 use type_reader::typ;
@@ -16,22 +16,13 @@ pub fn assignment(words: &Table, tape: &mut Tape, at: usize, n: usize) -> Out
     requires { Starts words.now at n name_kind }
     ensures { IsAssignment words.now at n tape.old result tape.new }
 {
-    let is_memory = memory(words, at);
-    if is_memory {
+    if memory(words, at) {
         return write(words, tape, at, n);
     }
-    let k = kind(words, at + 1);
-    if k != kinds::EQUALS {
-        return Out::Bad(at + 1);
-    }
-    let o = expr(words, tape, at + 2, n, false);
-    match closed(words, o, kinds::SEMICOLON) {
-        Out::At(x, m) => {
-            let q = put(words, tape, at, m, ASSIGN, 0);
-            Out::At(x, q)
-        }
-        Out::Bad(i) => Out::Bad(i),
-    }
+    let x = expect(words, at + 1, kinds::EQUALS)?;
+    let (y, m) = expr(words, tape, x, n, false)?;
+    let z = expect(words, y, kinds::SEMICOLON)?;
+    Ok((z, put(words, tape, at, m, ASSIGN, 0)))
 }
 
 // A memory, its address, and what is written there.
@@ -40,25 +31,13 @@ fn write(words: &Table, tape: &mut Tape, at: usize, n: usize) -> Out
     requires at_value { is_memory (value_at words.now at) ≡ true }
     ensures { IsAssignment words.now at n tape.old result tape.new }
 {
-    let k = kind(words, at + 1);
-    if k != kinds::BRACKET {
-        return Out::Bad(at + 1);
-    }
-    let o = expr(words, tape, at + 2, n, false);
-    let c = closed(words, o, kinds::UNBRACKET);
-    match closed(words, c, kinds::EQUALS) {
-        Out::At(x, m) => {
-            let v = expr(words, tape, x, m, false);
-            match closed(words, v, kinds::SEMICOLON) {
-                Out::At(y, q) => {
-                    let p = put(words, tape, at, q, WRITE, 0);
-                    Out::At(y, p)
-                }
-                Out::Bad(i) => Out::Bad(i),
-            }
-        }
-        Out::Bad(i) => Out::Bad(i),
-    }
+    let x = expect(words, at + 1, kinds::BRACKET)?;
+    let (y, m) = expr(words, tape, x, n, false)?;
+    let z = expect(words, y, kinds::UNBRACKET)?;
+    let value = expect(words, z, kinds::EQUALS)?;
+    let (past, q) = expr(words, tape, value, m, false)?;
+    let end = expect(words, past, kinds::SEMICOLON)?;
+    Ok((end, put(words, tape, at, q, WRITE, 0)))
 }
 
 // What follows `val`: a type or none, a name, its value.
@@ -66,15 +45,12 @@ pub fn val(words: &Table, tape: &mut Tape, at: usize, n: usize) -> Out
     requires { Room words.now at n }
     ensures { IsVal words.now at n tape.old result tape.new }
 {
-    let k = kind(words, at);
-    if k != kinds::LESS {
+    if kind(words, at) != kinds::LESS {
         return binding(words, tape, at, n, 0);
     }
-    let o = typ(words, tape, at + 1, n);
-    match closed(words, o, kinds::GREATER) {
-        Out::At(x, m) => binding(words, tape, x, m, 1),
-        Out::Bad(i) => Out::Bad(i),
-    }
+    let (x, m) = typ(words, tape, at + 1, n)?;
+    let y = expect(words, x, kinds::GREATER)?;
+    binding(words, tape, y, m, 1)
 }
 
 // A name and its value, after a type that is on the tape or none.
@@ -82,20 +58,9 @@ fn binding(words: &Table, tape: &mut Tape, at: usize, n: usize, typed: u32) -> O
     requires { Room words.now at n }
     ensures { IsBinding words.now at n tape.old result tape.new typed }
 {
-    let name = kind(words, at);
-    if name != kinds::NAME {
-        return Out::Bad(at);
-    }
-    let k = kind(words, at + 1);
-    if k != kinds::EQUALS {
-        return Out::Bad(at + 1);
-    }
-    let o = expr(words, tape, at + 2, n, false);
-    match closed(words, o, kinds::SEMICOLON) {
-        Out::At(x, m) => {
-            let q = put(words, tape, at, m, VAL, typed);
-            Out::At(x, q)
-        }
-        Out::Bad(i) => Out::Bad(i),
-    }
+    let x = expect(words, at, kinds::NAME)?;
+    let y = expect(words, x, kinds::EQUALS)?;
+    let (z, m) = expr(words, tape, y, n, false)?;
+    let end = expect(words, z, kinds::SEMICOLON)?;
+    Ok((end, put(words, tape, at, m, VAL, typed)))
 }

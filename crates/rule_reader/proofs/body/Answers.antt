@@ -1,30 +1,34 @@
 -- `rule_reader::body` meets its contract. Assumes nothing.
 use native.Mathlib.Omega.{arith}
-use Rattle.tape.specs.Tape.{flat_rule}
-use Rattle.readers.specs.Meets.{read}
-use Rattle.rule_reader.specs.Tails.{body_p}
-use Rattle.readers.proofs.Laws.{on_more, stands}
-use Rattle.readers.proofs.Spells.{until_at, until_bad, closed_at, closed_bad}
 use Rattle.readers.proofs.Fixed.{s_unbrace}
+use Rattle.readers.proofs.Laws.{on_more, same_err}
+use Rattle.readers.proofs.Spells.{until_ok, until_missed, until_err, found_at}
+use Rattle.readers.specs.Meets.{read}
+use Rattle.tape.specs.Tape.{flat_rule}
+use Rattle.rule_reader.specs.Tails.{body_p}
 use Rattle.rule_reader.proofs.body.Goals as goal
 
-pub closed-requires : goal.closed-requires
-closed-requires c = stands c.requires.few c.statements-o.ensures.moved
-
-pub emit-q-requires : goal.emit-q-requires
-emit-q-requires c = let w = closed_at (omega arith) c.in-At.is c.closed.ensures c.statements-o.ensures.moved in omega (arith, c.requires)
-
-pub returns-in-At : goal.returns-in-At
-unfolding body_p flat_rule
-returns-in-At c = let w = closed_at (omega arith) c.in-At.is c.closed.ensures c.statements-o.ensures.moved in record {
-  moved = omega (arith, c.requires);
-  agrees = λ M f h called es on. until_at M s_unbrace _ _ c.in-At.is c.closed.ensures (c.statements-o.ensures.agrees M f (omega (arith, c.requires)))
-      (λ l p on₁. read (on_more (on_more on on₁) c.emit-q.ensures));
-}
-
-pub returns-in-Bad : goal.returns-in-Bad
+pub returns-in_err-x : goal.returns-in_err-x
 unfolding body_p
-returns-in-Bad c = record {
-  moved = record { to = closed_bad c.in-Bad.is c.closed.ensures c.statements-o.ensures.moved };
-  agrees = λ M f h called es on. until_bad M s_unbrace _ _ c.in-Bad.is c.closed.ensures (c.statements-o.ensures.agrees M f (omega (arith, c.requires)));
+returns-in_err-x c = rw (same_err c.from_residual.ensures.1) (record {
+  moved = record { to = c.in_err-x.ensures.moved.to };
+  agrees = λ M f h called es on. until_err M s_unbrace _ _ (c.in_err-x.ensures.agrees M f (omega (arith, c.requires)));
+})
+
+pub returns-in_err-y : goal.returns-in_err-y
+unfolding body_p
+returns-in_err-y c = rw (same_err c.from_residual-in_err-y.ensures.1) (record {
+  moved = omega (arith, c.requires, c.in_ok-x.ensures.moved.to, c.in_err-y.ensures);
+  agrees = λ M f h called es on. until_missed M s_unbrace _ _ (c.in_ok-x.ensures.agrees M f (omega (arith, c.requires))) c.in_err-y.ensures;
+})
+
+pub emit-requires : goal.emit-requires
+emit-requires c = omega (arith, c.requires, c.in_ok-x.ensures.moved.to, c.in_ok-y.ensures, found_at (omega arith) c.in_ok-y.ensures)
+
+pub returns : goal.returns
+unfolding body_p flat_rule
+returns c = record {
+  moved = omega (arith, c.requires, c.in_ok-x.ensures.moved.to, c.in_ok-y.ensures, found_at (omega arith) c.in_ok-y.ensures, c.emit.ensures);
+  agrees = λ M f h called es on. until_ok M s_unbrace _ _ (c.in_ok-x.ensures.agrees M f (omega (arith, c.requires))) c.in_ok-y.ensures (λ a p on₁.
+      read (on_more (on_more on on₁) c.emit.ensures));
 }

@@ -1,26 +1,49 @@
 -- `rule_reader::conjunction` meets its contract. Assumes nothing.
-use native.Mathlib.Omega.{arith}
-use mathlib.Core.Path.{sym, ◌∙◌}
 use Prim.Native.Nat.{suc}
-use Rattle.readers.specs.Meets.{fault}
-use Rattle.readers.proofs.Laws.{moved_more, stands}
-use Rattle.readers.proofs.Spells.{closed_moved}
+use native.Mathlib.Omega.{arith}
 use Rattle.readers.proofs.Fixed.{s_close}
-use Rattle.rule_reader.proofs.Ruled.{until_closes, and_open, and_none, and_some}
+use Rattle.readers.proofs.Laws.{same_err}
+use Rattle.readers.proofs.Spells.{until_ok, until_missed, until_err, found_at}
+use Rattle.readers.specs.Meets.{read, fault}
+use Rattle.rule_reader.proofs.Ruled.{and_open, and_some, and_none}
 use Rattle.rule_reader.proofs.conjunction.Goals as goal
 
-pub returns-then-k-ne-OPEN : goal.returns-then-k-ne-OPEN
-returns-then-k-ne-OPEN c = record { moved = omega (arith, c.requires); agrees = λ M f h. rw (and_open M f _ c.requires.kind (λ q. c.if-k-ne-OPEN.true (c.kind-k.ensures.is ∙ q))) fault }
+pub returns-in_err-x : goal.returns-in_err-x
+returns-in_err-x c = rw (same_err c.from_residual.ensures.1) (record {
+  moved = omega (arith, c.requires, c.in_err-x.ensures);
+  agrees = λ M f h. rw (and_open M f _ c.requires.kind c.in_err-x.ensures) fault;
+})
 
-pub returns-then-first-ne-OR : goal.returns-then-first-ne-OR
-returns-then-first-ne-OR c = record { moved = omega (arith, c.requires); agrees = λ M f h. rw (and_none M f c.args.at c.requires.kind (sym c.kind-k.ensures.is ∙ c.if-k-ne-OPEN.false) (λ q. c.if-first-ne-OR.true (c.kind-first.ensures.is ∙ q))) fault }
+pub returns-in_err-expect : goal.returns-in_err-expect
+returns-in_err-expect c = rw (same_err c.from_residual-in_err-expect.ensures.1) (record {
+  moved = omega (arith, c.requires, c.in_ok-x.ensures, found_at (omega arith) c.in_ok-x.ensures, c.in_err-expect.ensures);
+  agrees = λ M f h. rw (and_none M f c.args.at c.requires.kind c.in_ok-x.ensures c.in_err-expect.ensures) fault;
+})
 
-pub closed-requires : goal.closed-requires
-closed-requires c = stands c.requires.few c.groups-o.ensures.moved
+pub returns-in_err-y : goal.returns-in_err-y
+returns-in_err-y c = rw (same_err c.from_residual-in_err-y.ensures.1) (record {
+  moved = record { to = c.in_err-y.ensures.moved.to };
+  agrees = λ M f h. rw (and_some M f c.args.at c.requires.kind c.in_ok-x.ensures c.in_ok-expect.ensures.kind)
+      (until_err M s_close _ _ (c.in_err-y.ensures.agrees M (suc f) (omega (arith, c.requires, c.in_ok-x.ensures, found_at (omega arith) c.in_ok-x.ensures, c.in_ok-expect.ensures, found_at (omega arith) c.in_ok-expect.ensures))));
+})
+
+pub returns-in_err-z : goal.returns-in_err-z
+returns-in_err-z c = rw (same_err c.from_residual-in_err-z.ensures.1) (record {
+  moved = omega (arith, c.requires, c.in_ok-x.ensures, found_at (omega arith) c.in_ok-x.ensures, c.in_ok-expect.ensures, found_at (omega arith) c.in_ok-expect.ensures, c.in_ok-y.ensures.moved.to, c.in_err-z.ensures);
+  agrees = λ M f h. rw (and_some M f c.args.at c.requires.kind c.in_ok-x.ensures c.in_ok-expect.ensures.kind)
+      (until_missed M s_close _ _ (c.in_ok-y.ensures.agrees M (suc f) (omega (arith, c.requires, c.in_ok-x.ensures, found_at (omega arith) c.in_ok-x.ensures, c.in_ok-expect.ensures, found_at (omega arith) c.in_ok-expect.ensures))) c.in_err-z.ensures);
+})
+
+pub expect-requires-2 : goal.expect-requires-2
+expect-requires-2 c = omega (arith, c.requires, c.in_ok-x.ensures, found_at (omega arith) c.in_ok-x.ensures)
+
+pub groups-requires : goal.groups-requires
+groups-requires c = omega (arith, c.requires, c.in_ok-x.ensures, found_at (omega arith) c.in_ok-x.ensures, c.in_ok-expect.ensures, found_at (omega arith) c.in_ok-expect.ensures)
 
 pub returns : goal.returns
 returns c = record {
-  moved = moved_more (omega (arith, c.requires)) (closed_moved (omega arith) c.closed.ensures c.groups-o.ensures.moved);
-  agrees = λ M f h. rw (and_some M f c.args.at c.requires.kind (sym c.kind-k.ensures.is ∙ c.if-k-ne-OPEN.false) (sym c.kind-first.ensures.is ∙ c.if-first-ne-OR.false))
-      (until_closes M s_close c.closed.ensures (c.groups-o.ensures.agrees M (suc f) (omega (arith, c.requires))));
+  moved = omega (arith, c.requires, c.in_ok-x.ensures, found_at (omega arith) c.in_ok-x.ensures, c.in_ok-expect.ensures, found_at (omega arith) c.in_ok-expect.ensures, c.in_ok-y.ensures.moved.to, c.in_ok-z.ensures, found_at (omega arith) c.in_ok-z.ensures);
+  agrees = λ M f h. rw (and_some M f c.args.at c.requires.kind c.in_ok-x.ensures c.in_ok-expect.ensures.kind)
+      (until_ok M s_close _ _ (c.in_ok-y.ensures.agrees M (suc f) (omega (arith, c.requires, c.in_ok-x.ensures, found_at (omega arith) c.in_ok-x.ensures, c.in_ok-expect.ensures, found_at (omega arith) c.in_ok-expect.ensures))) c.in_ok-z.ensures (λ a p on₁.
+      read on₁));
 }

@@ -7,8 +7,8 @@ use Rattle.readers.specs.Marks.{count}
 use Rattle.readers.proofs.Lists.{Listed}
 use Rattle.rule_reader.proofs.groups.Given as goal
 
-abbrev pub invariant-loop-at : goal.invariant-loop-at
-invariant-loop-at l = Listed flat_group (is "or") (λ ms f p r. group_p ms f p r) l.words l.initial.x l.initial.m l.initial.tape l.x l.m l.tape
+abbrev pub invariant-loop-tape : goal.invariant-loop-tape
+invariant-loop-tape l = Listed flat_group (is "or") (λ ms f p r. group_p ms f p r) l.words l.initial.x l.initial.m l.initial.tape l.x l.m l.tape
 
-abbrev pub decreases-loop-at : goal.decreases-loop-at
-decreases-loop-at l = count l.words - l.x
+abbrev pub decreases-loop-tape : goal.decreases-loop-tape
+decreases-loop-tape l = count l.words - l.x

@@ -1,41 +1,58 @@
 -- `rule_reader::rule` meets its contract. Assumes nothing.
 use native.Mathlib.Omega.{arith}
-use mathlib.Core.Path.{sym, ◌∙◌}
-use Prim.Native.Nat.{◌+◌}
-use Rattle.readers.specs.Meets.{fault}
-use Rattle.readers.proofs.Laws.{on_more, moved_more, stands}
-use Rattle.readers.proofs.Spells.{expect_at, expect_bad, until2_at, until2_bad, closed_at, closed_bad, closed_moved}
 use Rattle.readers.proofs.Fixed.{s_open, s_close, s_brace}
+use Rattle.readers.proofs.Laws.{on_more, moved_more, same_err}
+use Rattle.readers.proofs.Spells.{expect_found, expect_missed, until_ok, until_missed, until_err, found_at}
 use Rattle.rule_reader.proofs.Ruled.{rule_law}
 use Rattle.rule_reader.proofs.rule.Goals as goal
 
-pub returns-then-k-ne-OPEN : goal.returns-then-k-ne-OPEN
-returns-then-k-ne-OPEN c = record { moved = omega (arith, c.requires); agrees = λ M f h. rw (rule_law _ f _ _) (rw (expect_bad M "(" 36 _ s_open _ (λ q. c.if-k-ne-OPEN.true (c.kind-k.ensures.is ∙ q))) fault) }
+pub returns-in_err-x : goal.returns-in_err-x
+returns-in_err-x c = rw (same_err c.from_residual.ensures.1) (record {
+  moved = omega (arith, c.requires, c.in_err-x.ensures);
+  agrees = λ M f h. rw (rule_law _ f _ _)
+      (expect_missed M s_open _ c.in_err-x.ensures);
+})
 
-pub closed-c-requires : goal.closed-c-requires
-closed-c-requires c = stands c.requires.few c.entries-o.ensures.moved
+pub returns-in_err-y : goal.returns-in_err-y
+returns-in_err-y c = rw (same_err c.from_residual-in_err-y.ensures.1) (record {
+  moved = record { to = c.in_err-y.ensures.moved.to };
+  agrees = λ M f h. rw (rule_law _ f _ _)
+      (rw (expect_found M s_open _ c.in_ok-x.ensures)
+      (until_err M s_close _ _ (c.in_err-y.ensures.agrees M f (omega (arith, c.requires, c.in_ok-x.ensures, found_at (omega arith) c.in_ok-x.ensures)))));
+})
 
-pub closed-requires : goal.closed-requires
-closed-requires c = stands c.requires.few (closed_moved (omega arith) c.closed-c.ensures c.entries-o.ensures.moved)
+pub returns-in_err-z : goal.returns-in_err-z
+returns-in_err-z c = rw (same_err c.from_residual-in_err-z.ensures.1) (record {
+  moved = omega (arith, c.requires, c.in_ok-x.ensures, found_at (omega arith) c.in_ok-x.ensures, c.in_ok-y.ensures.moved.to, c.in_err-z.ensures);
+  agrees = λ M f h. rw (rule_law _ f _ _)
+      (rw (expect_found M s_open _ c.in_ok-x.ensures)
+      (until_missed M s_close _ _ (c.in_ok-y.ensures.agrees M f (omega (arith, c.requires, c.in_ok-x.ensures, found_at (omega arith) c.in_ok-x.ensures))) c.in_err-z.ensures));
+})
+
+pub returns-in_err-first : goal.returns-in_err-first
+returns-in_err-first c = rw (same_err c.from_residual-in_err-first.ensures.1) (record {
+  moved = omega (arith, c.requires, c.in_ok-x.ensures, found_at (omega arith) c.in_ok-x.ensures, c.in_ok-y.ensures.moved.to, c.in_ok-z.ensures, found_at (omega arith) c.in_ok-z.ensures, c.in_err-first.ensures);
+  agrees = λ M f h. rw (rule_law _ f _ _)
+      (rw (expect_found M s_open _ c.in_ok-x.ensures)
+      (until_ok M s_close _ _ (c.in_ok-y.ensures.agrees M f (omega (arith, c.requires, c.in_ok-x.ensures, found_at (omega arith) c.in_ok-x.ensures))) c.in_ok-z.ensures (λ a p on₁.
+      expect_missed M s_brace _ c.in_err-first.ensures)));
+})
+
+pub entries-requires : goal.entries-requires
+entries-requires c = omega (arith, c.requires, c.in_ok-x.ensures, found_at (omega arith) c.in_ok-x.ensures, c.put-m.ensures)
+
+pub expect-requires-3 : goal.expect-requires-3
+expect-requires-3 c = omega (arith, c.requires, c.in_ok-x.ensures, found_at (omega arith) c.in_ok-x.ensures, c.in_ok-y.ensures.moved.to, c.in_ok-z.ensures, found_at (omega arith) c.in_ok-z.ensures)
 
 pub body-requires : goal.body-requires
-body-requires c = let w = closed_at (omega arith) c.in-At.is c.closed.ensures (closed_moved (omega arith) c.closed-c.ensures c.entries-o.ensures.moved) in
-    omega (arith, c.requires, c.put-m.ensures.ends)
+body-requires c = omega (arith, c.requires, c.in_ok-x.ensures, found_at (omega arith) c.in_ok-x.ensures, c.in_ok-y.ensures.moved.to, c.in_ok-z.ensures, found_at (omega arith) c.in_ok-z.ensures, c.in_ok-first.ensures, found_at (omega arith) c.in_ok-first.ensures, c.put-m.ensures)
 
-pub returns-in-At : goal.returns-in-At
-returns-in-At c = let w = closed_at (omega arith) c.in-At.is c.closed.ensures (closed_moved (omega arith) c.closed-c.ensures c.entries-o.ensures.moved) in
-    record {
-      moved = moved_more (omega (arith, c.requires, c.put-m.ensures.ends)) c.body.ensures.moved;
-      agrees = λ M f h. rw (rule_law _ f _ _) (rw (expect_at M "(" 36 (c.args.at + 1) s_open (c.args.at + 2) _
-          (sym c.kind-k.ensures.is ∙ c.if-k-ne-OPEN.false) (omega arith))
-          (until2_at M s_close s_brace _ _ c.in-At.is c.closed-c.ensures c.closed.ensures (c.entries-o.ensures.agrees M f (omega (arith, c.requires)))
-          (λ es on. c.body.ensures.agrees M f (omega (arith, c.requires)) _ es (on_more c.put-m.ensures on))));
-    }
-
-pub returns-in-Bad : goal.returns-in-Bad
-returns-in-Bad c = record {
-  moved = record { to = closed_bad c.in-Bad.is c.closed.ensures (closed_moved (omega arith) c.closed-c.ensures c.entries-o.ensures.moved) };
-  agrees = λ M f h. rw (rule_law _ f _ _) (rw (expect_at M "(" 36 (c.args.at + 1) s_open (c.args.at + 2) _
-      (sym c.kind-k.ensures.is ∙ c.if-k-ne-OPEN.false) (omega arith))
-      (until2_bad M s_close s_brace _ _ c.in-Bad.is c.closed-c.ensures c.closed.ensures (c.entries-o.ensures.agrees M f (omega (arith, c.requires)))));
+pub returns : goal.returns
+returns c = record {
+  moved = moved_more (omega (arith, c.requires, c.in_ok-x.ensures, found_at (omega arith) c.in_ok-x.ensures, c.in_ok-y.ensures.moved.to, c.in_ok-z.ensures, found_at (omega arith) c.in_ok-z.ensures, c.in_ok-first.ensures, found_at (omega arith) c.in_ok-first.ensures, c.put-m.ensures)) c.body.ensures.moved;
+  agrees = λ M f h. rw (rule_law _ f _ _)
+      (rw (expect_found M s_open _ c.in_ok-x.ensures)
+      (until_ok M s_close _ _ (c.in_ok-y.ensures.agrees M f (omega (arith, c.requires, c.in_ok-x.ensures, found_at (omega arith) c.in_ok-x.ensures))) c.in_ok-z.ensures (λ a p on₁.
+      rw (expect_found M s_brace _ c.in_ok-first.ensures)
+      (c.body.ensures.agrees M f (omega (arith, c.requires, c.in_ok-x.ensures, found_at (omega arith) c.in_ok-x.ensures, c.in_ok-y.ensures.moved.to, c.in_ok-z.ensures, found_at (omega arith) c.in_ok-z.ensures, c.in_ok-first.ensures, found_at (omega arith) c.in_ok-first.ensures)) _ a (on_more c.put-m.ensures on₁)))));
 }

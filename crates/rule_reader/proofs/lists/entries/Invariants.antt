@@ -6,8 +6,8 @@ use Rattle.readers.specs.Marks.{count}
 use Rattle.readers.proofs.Commas.{Commas}
 use Rattle.rule_reader.proofs.lists.entries.Given as goal
 
-abbrev pub invariant-loop-y : goal.invariant-loop-y
-invariant-loop-y l = Commas flat_entry (λ f l. entry_p f l) l.words l.initial.x l.initial.m l.initial.tape l.x l.m l.tape
+abbrev pub invariant-loop-x : goal.invariant-loop-x
+invariant-loop-x l = Commas flat_entry (λ f l. entry_p f l) l.words l.initial.x l.initial.m l.initial.tape l.x l.m l.tape
 
-abbrev pub decreases-loop-y : goal.decreases-loop-y
-decreases-loop-y l = count l.words - l.x
+abbrev pub decreases-loop-x : goal.decreases-loop-x
+decreases-loop-x l = count l.words - l.x

@@ -1,43 +1,51 @@
 -- `rule_reader::lists::entry` meets its contract. Assumes nothing.
-use native.Mathlib.Omega.{arith}
 use mathlib.Core.Path.{sym, ◌∙◌}
+use native.Mathlib.Omega.{arith}
+use Rattle.readers.proofs.Laws.{same_err}
+use Rattle.readers.proofs.Spells.{found_at, p_inside}
 use Rattle.readers.specs.Meets.{fault}
-use Rattle.readers.proofs.Spells.{p_inside}
 use Rattle.rule_reader.proofs.Listed.{entry_none, entry_dot, entry_p_law, entry_second, entry_figure}
 use Rattle.rule_reader.proofs.lists.entry.Goals as goal
 
-pub returns-then-name-ne-NAME : goal.returns-then-name-ne-NAME
-returns-then-name-ne-NAME c = record { moved = omega (arith, c.requires); agrees = λ M f h. rw (entry_none M f _ (λ q. c.if-name-ne-NAME.true (c.kind-name.ensures.is ∙ q))) fault }
+pub returns-in_err-x : goal.returns-in_err-x
+returns-in_err-x c = rw (same_err c.from_residual.ensures.1) (record {
+  moved = omega (arith, c.requires, c.in_err-x.ensures);
+  agrees = λ M f h. rw (entry_none M f _ c.in_err-x.ensures) fault;
+})
 
-pub returns-then-dot-ne-DOT : goal.returns-then-dot-ne-DOT
-returns-then-dot-ne-DOT c = record { moved = omega (arith, c.requires); agrees = λ M f h. rw (entry_dot M f _ (sym c.kind-name.ensures.is ∙ c.if-name-ne-NAME.false) (λ q. c.if-dot-ne-DOT.true (c.kind-dot.ensures.is ∙ q))) fault }
+pub returns-in_err-y : goal.returns-in_err-y
+returns-in_err-y c = rw (same_err c.from_residual-in_err-y.ensures.1) (record {
+  moved = omega (arith, c.requires, c.in_ok-x.ensures, found_at (omega arith) c.in_ok-x.ensures, c.in_err-y.ensures);
+  agrees = λ M f h. rw (entry_dot M f _ c.in_ok-x.ensures c.in_err-y.ensures) fault;
+})
 
-pub returns-then-not-p : goal.returns-then-not-p
-returns-then-not-p c = record {
-  moved = omega (arith, c.requires);
-  agrees = λ M f h. rw
-      (entry_p_law M f _ (sym c.kind-name.ensures.is ∙ c.if-name-ne-NAME.false) (sym c.kind-dot.ensures.is ∙ c.if-dot-ne-DOT.false) (sym c.the_p-p.ensures ∙ c.if-not-p.true)) fault;
+pub returns-in_err-expect : goal.returns-in_err-expect
+returns-in_err-expect c = rw (same_err c.from_residual-in_err-expect.ensures.1) (record {
+  moved = omega (arith, c.requires, c.in_ok-x.ensures, found_at (omega arith) c.in_ok-x.ensures, c.in_ok-y.ensures, found_at (omega arith) c.in_ok-y.ensures, p_inside _ _ (sym c.the_p.ensures ∙ c.if-not-the_p.false), c.in_err-expect.ensures);
+  agrees = λ M f h. rw (entry_second M f _ c.in_ok-x.ensures c.in_ok-y.ensures (sym c.the_p.ensures ∙ c.if-not-the_p.false) c.in_err-expect.ensures) fault;
+})
+
+pub expect-requires-2 : goal.expect-requires-2
+expect-requires-2 c = omega (arith, c.requires, c.in_ok-x.ensures, found_at (omega arith) c.in_ok-x.ensures)
+
+pub the_p-requires : goal.the_p-requires
+the_p-requires c = omega (arith, c.requires, c.in_ok-x.ensures, found_at (omega arith) c.in_ok-x.ensures, c.in_ok-y.ensures, found_at (omega arith) c.in_ok-y.ensures)
+
+pub returns-then-not-the_p : goal.returns-then-not-the_p
+returns-then-not-the_p c = record {
+  moved = omega (arith, c.requires, c.in_ok-x.ensures, found_at (omega arith) c.in_ok-x.ensures, c.in_ok-y.ensures, found_at (omega arith) c.in_ok-y.ensures);
+  agrees = λ M f h. rw (entry_p_law M f _ c.in_ok-x.ensures c.in_ok-y.ensures (sym c.the_p.ensures ∙ c.if-not-the_p.true)) fault;
 }
 
-pub kind-second-requires : goal.kind-second-requires
-kind-second-requires c = let i = p_inside _ _ (sym c.the_p-p.ensures ∙ c.if-not-p.false) in omega (arith, c.requires)
+pub expect-requires-3 : goal.expect-requires-3
+expect-requires-3 c = omega (arith, c.requires, c.in_ok-x.ensures, found_at (omega arith) c.in_ok-x.ensures, c.in_ok-y.ensures, found_at (omega arith) c.in_ok-y.ensures, p_inside _ _ (sym c.the_p.ensures ∙ c.if-not-the_p.false))
 
-pub returns-then-second-ne-DOT : goal.returns-then-second-ne-DOT
-returns-then-second-ne-DOT c = let i = p_inside _ _ (sym c.the_p-p.ensures ∙ c.if-not-p.false) in
-    record {
-      moved = omega (arith, c.requires);
-      agrees = λ M f h. rw
-          (entry_second M f _ (sym c.kind-name.ensures.is ∙ c.if-name-ne-NAME.false) (sym c.kind-dot.ensures.is ∙ c.if-dot-ne-DOT.false)
-          (sym c.the_p-p.ensures ∙ c.if-not-p.false) (λ q. c.if-second-ne-DOT.true (c.kind-second.ensures.is ∙ q))) fault;
-    }
-
-pub figure-requires : goal.figure-requires
-figure-requires c = let i = p_inside _ _ (sym c.the_p-p.ensures ∙ c.if-not-p.false) in omega (arith, c.requires)
+pub figure-requires-clause-inside : goal.figure-requires-clause-inside
+figure-requires-clause-inside c = omega (arith, c.requires, c.in_ok-x.ensures, found_at (omega arith) c.in_ok-x.ensures, c.in_ok-y.ensures, found_at (omega arith) c.in_ok-y.ensures, c.in_ok-expect.ensures, found_at (omega arith) c.in_ok-expect.ensures)
 
 pub returns : goal.returns
 returns c = record {
   moved = c.figure.ensures.moved;
-  agrees = λ M f h. rw (entry_figure M f _ (sym c.kind-name.ensures.is ∙ c.if-name-ne-NAME.false)
-      (sym c.kind-dot.ensures.is ∙ c.if-dot-ne-DOT.false) (sym c.the_p-p.ensures ∙ c.if-not-p.false) (sym c.kind-second.ensures.is ∙ c.if-second-ne-DOT.false))
+  agrees = λ M f h. rw (entry_figure M f _ c.in_ok-x.ensures c.in_ok-y.ensures (sym c.the_p.ensures ∙ c.if-not-the_p.false) c.in_ok-expect.ensures)
       (c.figure.ensures.agrees M f (omega (arith, c.requires)));
 }

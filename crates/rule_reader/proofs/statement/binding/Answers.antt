@@ -1,43 +1,55 @@
 -- `rule_reader::statement::binding` meets its contract. Assumes nothing.
+use mathlib.Core.Path.{sym}
 use native.Mathlib.Omega.{arith}
-use mathlib.Core.Path.{sym, ◌∙◌}
-use Prim.Native.Nat.{◌+◌}
-use Rattle.tape.specs.Tape.{flat_val}
+use Rattle.readers.proofs.Fixed.{s_semicolon, s_equals}
+use Rattle.readers.proofs.Laws.{on_more, on_value, same_err}
+use Rattle.readers.proofs.Spells.{expect_found, expect_missed, until_ok, until_missed, until_err, found_at}
 use Rattle.readers.specs.Meets.{read, fault}
-use Rattle.readers.proofs.Laws.{on_more, on_value, stands}
-use Rattle.readers.proofs.Spells.{expect_at, expect_bad, until_at, until_bad, closed_at, closed_bad}
-use Rattle.readers.proofs.Fixed.{s_equals, s_semicolon}
+use Rattle.tape.specs.Tape.{flat_val}
 use Rattle.rule_reader.proofs.Stated.{binding_name, binding_none}
 use Rattle.rule_reader.proofs.statement.binding.Goals as goal
 
-pub returns-then-name-ne-NAME : goal.returns-then-name-ne-NAME
-returns-then-name-ne-NAME c = record { moved = omega (arith, c.requires); agrees = λ M f h d e on. rw (binding_none M f _ d (λ q. c.if-name-ne-NAME.true (c.kind-name.ensures.is ∙ q))) fault }
+pub returns-in_err-x : goal.returns-in_err-x
+returns-in_err-x c = rw (same_err c.from_residual.ensures.1) (record {
+  moved = omega (arith, c.requires, c.in_err-x.ensures);
+  agrees = λ M f h d e on. rw (binding_none M f _ d c.in_err-x.ensures) fault;
+})
 
-pub returns-then-k-ne-EQUALS : goal.returns-then-k-ne-EQUALS
-returns-then-k-ne-EQUALS c = record { moved = omega (arith, c.requires); agrees = λ M f h d e on. rw (binding_name M f _ d (sym c.kind-name.ensures.is ∙ c.if-name-ne-NAME.false)) (rw (expect_bad M "=" 47 _ s_equals _ (λ q. c.if-k-ne-EQUALS.true (c.kind-k.ensures.is ∙ q))) fault) }
+pub returns-in_err-y : goal.returns-in_err-y
+returns-in_err-y c = rw (same_err c.from_residual-in_err-y.ensures.1) (record {
+  moved = omega (arith, c.requires, c.in_ok-x.ensures, found_at (omega arith) c.in_ok-x.ensures, c.in_err-y.ensures);
+  agrees = λ M f h d e on. rw (binding_name M f _ d c.in_ok-x.ensures)
+      (expect_missed M s_equals _ c.in_err-y.ensures);
+})
 
-pub closed-requires : goal.closed-requires
-closed-requires c = stands c.requires.few c.expr-o.ensures.moved
+pub returns-in_err-z : goal.returns-in_err-z
+returns-in_err-z c = rw (same_err c.from_residual-in_err-z.ensures.1) (record {
+  moved = record { to = c.in_err-z.ensures.moved.to };
+  agrees = λ M f h d e on. rw (binding_name M f _ d c.in_ok-x.ensures)
+      (rw (expect_found M s_equals _ c.in_ok-y.ensures)
+      (until_err M s_semicolon _ _ (c.in_err-z.ensures.agrees M f (omega (arith, c.requires, c.in_ok-x.ensures, found_at (omega arith) c.in_ok-x.ensures, c.in_ok-y.ensures, found_at (omega arith) c.in_ok-y.ensures)))));
+})
 
-pub put-q-requires : goal.put-q-requires
-put-q-requires c = let w = closed_at (omega arith) c.in-At.is c.closed.ensures c.expr-o.ensures.moved in omega (arith, c.requires)
+pub returns-in_err-end : goal.returns-in_err-end
+returns-in_err-end c = rw (same_err c.from_residual-in_err-end.ensures.1) (record {
+  moved = omega (arith, c.requires, c.in_ok-x.ensures, found_at (omega arith) c.in_ok-x.ensures, c.in_ok-y.ensures, found_at (omega arith) c.in_ok-y.ensures, c.in_ok-z.ensures.moved.to, c.in_err-end.ensures);
+  agrees = λ M f h d e on. rw (binding_name M f _ d c.in_ok-x.ensures)
+      (rw (expect_found M s_equals _ c.in_ok-y.ensures)
+      (until_missed M s_semicolon _ _ (c.in_ok-z.ensures.agrees M f (omega (arith, c.requires, c.in_ok-x.ensures, found_at (omega arith) c.in_ok-x.ensures, c.in_ok-y.ensures, found_at (omega arith) c.in_ok-y.ensures))) c.in_err-end.ensures));
+})
 
-pub returns-in-At : goal.returns-in-At
+pub expect-requires-2 : goal.expect-requires-2
+expect-requires-2 c = omega (arith, c.requires, c.in_ok-x.ensures, found_at (omega arith) c.in_ok-x.ensures)
+
+pub expr-requires : goal.expr-requires
+expr-requires c = omega (arith, c.requires, c.in_ok-x.ensures, found_at (omega arith) c.in_ok-x.ensures, c.in_ok-y.ensures, found_at (omega arith) c.in_ok-y.ensures)
+
+pub returns : goal.returns
 unfolding flat_val
-returns-in-At c = let w = closed_at (omega arith) c.in-At.is c.closed.ensures c.expr-o.ensures.moved in record {
-  moved = omega (arith, c.requires);
-  agrees = λ M f h d e on. rw (binding_name M f _ d (sym c.kind-name.ensures.is ∙ c.if-name-ne-NAME.false))
-      (rw (expect_at M "=" 47 (c.args.at + 1) s_equals (c.args.at + 2) _
-      (sym c.kind-k.ensures.is ∙ c.if-k-ne-EQUALS.false) (omega arith))
-      (until_at M s_semicolon _ _ c.in-At.is c.closed.ensures (c.expr-o.ensures.agrees M f (omega (arith, c.requires)))
-      (λ a p on₁. read (on_more (on_more on on₁) (on_value (sym e) c.put-q.ensures)))));
-}
-
-pub returns-in-Bad : goal.returns-in-Bad
-returns-in-Bad c = record {
-  moved = record { to = closed_bad c.in-Bad.is c.closed.ensures c.expr-o.ensures.moved };
-  agrees = λ M f h d e on. rw (binding_name M f _ d (sym c.kind-name.ensures.is ∙ c.if-name-ne-NAME.false))
-      (rw (expect_at M "=" 47 (c.args.at + 1) s_equals (c.args.at + 2) _
-      (sym c.kind-k.ensures.is ∙ c.if-k-ne-EQUALS.false) (omega arith))
-      (until_bad M s_semicolon _ _ c.in-Bad.is c.closed.ensures (c.expr-o.ensures.agrees M f (omega (arith, c.requires)))));
+returns c = record {
+  moved = omega (arith, c.requires, c.in_ok-x.ensures, found_at (omega arith) c.in_ok-x.ensures, c.in_ok-y.ensures, found_at (omega arith) c.in_ok-y.ensures, c.in_ok-z.ensures.moved.to, c.in_ok-end.ensures, found_at (omega arith) c.in_ok-end.ensures, c.put.ensures);
+  agrees = λ M f h d e on. rw (binding_name M f _ d c.in_ok-x.ensures)
+      (rw (expect_found M s_equals _ c.in_ok-y.ensures)
+      (until_ok M s_semicolon _ _ (c.in_ok-z.ensures.agrees M f (omega (arith, c.requires, c.in_ok-x.ensures, found_at (omega arith) c.in_ok-x.ensures, c.in_ok-y.ensures, found_at (omega arith) c.in_ok-y.ensures))) c.in_ok-end.ensures (λ a p on₁.
+      read (on_more (on_more on on₁) (on_value (sym e) c.put.ensures)))));
 }

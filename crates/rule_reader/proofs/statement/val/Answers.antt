@@ -1,36 +1,41 @@
 -- `rule_reader::statement::val` meets its contract. Assumes nothing.
+use mathlib.Core.Path.{sym, ◌∙◌, refl}
 use native.Mathlib.Omega.{arith}
-use mathlib.Core.Path.{refl, sym, ◌∙◌}
 use Rattle.language.specs.Tree.{untyped, Declared}
-use Rattle.tape.specs.Tape.{flat_d, is_typed}
-use Rattle.readers.proofs.Laws.{moved_more, stands}
-use Rattle.readers.proofs.Spells.{until_at, until_bad, closed_at, closed_bad}
 use Rattle.readers.proofs.Fixed.{s_greater}
+use Rattle.readers.proofs.Laws.{moved_more, same_err}
+use Rattle.readers.proofs.Lists.{on_none}
+use Rattle.readers.proofs.Spells.{until_ok, until_missed, until_err, found_at}
+use Rattle.tape.specs.Tape.{flat_d, is_typed}
 use Rattle.rule_reader.proofs.Stated.{val_untyped, val_typed}
 use Rattle.rule_reader.proofs.statement.val.Goals as goal
 
-pub returns-then-k-ne-LESS : goal.returns-then-k-ne-LESS
+pub returns-then-kind-ne-LESS : goal.returns-then-kind-ne-LESS
 unfolding flat_d is_typed
-returns-then-k-ne-LESS c = record { moved = c.binding.ensures.moved; agrees = λ M f h. rw (val_untyped M f _ (λ q. c.if-k-ne-LESS.true (c.kind-k.ensures.is ∙ q))) (c.binding.ensures.agrees M f (omega (arith, c.requires)) untyped refl (record { ends = omega arith; holds = refl })) }
+returns-then-kind-ne-LESS c = record { moved = c.binding.ensures.moved; agrees = λ M f h. rw (val_untyped M f _ (λ q. c.if-kind-ne-LESS.true (c.kind.ensures.is ∙ q))) (c.binding.ensures.agrees M f (omega (arith, c.requires)) untyped refl on_none) }
 
-pub closed-requires : goal.closed-requires
-closed-requires c = stands c.requires.few c.typ-o.ensures.moved
+pub returns-in_err-x : goal.returns-in_err-x
+returns-in_err-x c = rw (same_err c.from_residual.ensures.1) (record {
+  moved = record { to = c.in_err-x.ensures.moved.to };
+  agrees = λ M f h. rw (val_typed M f _ (sym c.kind.ensures.is ∙ c.if-kind-ne-LESS.false))
+      (until_err M s_greater _ _ (c.in_err-x.ensures.agrees M f (omega (arith, c.requires))));
+})
 
-pub binding-requires-in-At : goal.binding-requires-in-At
-binding-requires-in-At c = let w = closed_at (omega arith) c.in-At.is c.closed.ensures c.typ-o.ensures.moved in omega (arith, c.requires)
+pub returns-in_err-y : goal.returns-in_err-y
+returns-in_err-y c = rw (same_err c.from_residual-in_err-y.ensures.1) (record {
+  moved = omega (arith, c.requires, c.in_ok-x.ensures.moved.to, c.in_err-y.ensures);
+  agrees = λ M f h. rw (val_typed M f _ (sym c.kind.ensures.is ∙ c.if-kind-ne-LESS.false))
+      (until_missed M s_greater _ _ (c.in_ok-x.ensures.agrees M f (omega (arith, c.requires))) c.in_err-y.ensures);
+})
 
-pub returns-in-At : goal.returns-in-At
+pub binding-requires-2 : goal.binding-requires-2
+binding-requires-2 c = omega (arith, c.requires, c.in_ok-x.ensures.moved.to, c.in_ok-y.ensures, found_at (omega arith) c.in_ok-y.ensures)
+
+pub returns : goal.returns
 unfolding flat_d is_typed
-returns-in-At c = let w = closed_at (omega arith) c.in-At.is c.closed.ensures c.typ-o.ensures.moved in record {
-  moved = moved_more (omega (arith, c.requires)) c.binding-in-At.ensures.moved;
-  agrees = λ M f h. rw (val_typed M f _ (sym c.kind-k.ensures.is ∙ c.if-k-ne-LESS.false))
-      (until_at M s_greater _ _ c.in-At.is c.closed.ensures (c.typ-o.ensures.agrees M f (omega (arith, c.requires)))
-      (λ a p on. c.binding-in-At.ensures.agrees M f (omega (arith, c.requires)) (Declared.typed a) refl on));
-}
-
-pub returns-in-Bad : goal.returns-in-Bad
-returns-in-Bad c = record {
-  moved = record { to = closed_bad c.in-Bad.is c.closed.ensures c.typ-o.ensures.moved };
-  agrees = λ M f h. rw (val_typed M f _ (sym c.kind-k.ensures.is ∙ c.if-k-ne-LESS.false))
-      (until_bad M s_greater _ _ c.in-Bad.is c.closed.ensures (c.typ-o.ensures.agrees M f (omega (arith, c.requires))));
+returns c = record {
+  moved = moved_more (omega (arith, c.requires, c.in_ok-x.ensures.moved.to, c.in_ok-y.ensures, found_at (omega arith) c.in_ok-y.ensures)) c.binding-2.ensures.moved;
+  agrees = λ M f h. rw (val_typed M f _ (sym c.kind.ensures.is ∙ c.if-kind-ne-LESS.false))
+      (until_ok M s_greater _ _ (c.in_ok-x.ensures.agrees M f (omega (arith, c.requires))) c.in_ok-y.ensures (λ a p on₁.
+      c.binding-2.ensures.agrees M f (omega (arith, c.requires, c.in_ok-x.ensures.moved.to, c.in_ok-y.ensures, found_at (omega arith) c.in_ok-y.ensures)) (Declared.typed a) refl on₁));
 }

@@ -1,74 +1,82 @@
 -- `rule_reader::statement::write` meets its contract. Assumes nothing.
 use native.Mathlib.Omega.{arith}
-use mathlib.Core.Path.{sym, ◌∙◌}
-use Prim.Native.Nat.{◌+◌}
+use Rattle.readers.proofs.Fixed.{s_bracket, s_unbracket, s_semicolon, s_equals}
+use Rattle.readers.proofs.Laws.{on_more, same_err}
+use Rattle.readers.proofs.Spells.{expect_found, expect_missed, until_ok, until_missed, until_err, found_at}
+use Rattle.readers.specs.Meets.{read}
 use Rattle.tape.specs.Tape.{flat_assignment}
-use Rattle.readers.specs.Meets.{read, fault}
-use Rattle.readers.proofs.Laws.{on_more, stands}
-use Rattle.readers.proofs.Spells.{expect_at, expect_bad, until_at, until_bad, until2_at, until2_bad, closed_at, closed_bad, closed_moved}
-use Rattle.readers.proofs.Fixed.{s_bracket, s_unbracket, s_equals, s_semicolon}
 use Rattle.rule_reader.proofs.Stated.{assignment_memory}
 use Rattle.rule_reader.proofs.statement.write.Goals as goal
 
-pub kind-k-requires : goal.kind-k-requires
-kind-k-requires c = omega (arith, c.requires)
+pub returns-in_err-x : goal.returns-in_err-x
+returns-in_err-x c = rw (same_err c.from_residual.ensures.1) (record {
+  moved = omega (arith, c.requires, c.in_err-x.ensures);
+  agrees = λ M f h. rw (assignment_memory M f _ c.requires.starts.kind c.requires.at_value)
+      (expect_missed M s_bracket _ c.in_err-x.ensures);
+})
 
-pub returns-then-k-ne-BRACKET : goal.returns-then-k-ne-BRACKET
-returns-then-k-ne-BRACKET c = record { moved = omega (arith, c.requires); agrees = λ M f h. rw (assignment_memory M f _ c.requires.starts.kind c.requires.at_value) (rw (expect_bad M "[" 40 _ s_bracket _ (λ q. c.if-k-ne-BRACKET.true (c.kind-k.ensures.is ∙ q))) fault) }
+pub returns-in_err-y : goal.returns-in_err-y
+returns-in_err-y c = rw (same_err c.from_residual-in_err-y.ensures.1) (record {
+  moved = record { to = c.in_err-y.ensures.moved.to };
+  agrees = λ M f h. rw (assignment_memory M f _ c.requires.starts.kind c.requires.at_value)
+      (rw (expect_found M s_bracket _ c.in_ok-x.ensures)
+      (until_err M s_unbracket _ _ (c.in_err-y.ensures.agrees M f (omega (arith, c.requires, c.in_ok-x.ensures, found_at (omega arith) c.in_ok-x.ensures)))));
+})
 
-pub expr-o-requires : goal.expr-o-requires
-expr-o-requires c = omega (arith, c.requires)
+pub returns-in_err-z : goal.returns-in_err-z
+returns-in_err-z c = rw (same_err c.from_residual-in_err-z.ensures.1) (record {
+  moved = omega (arith, c.requires, c.in_ok-x.ensures, found_at (omega arith) c.in_ok-x.ensures, c.in_ok-y.ensures.moved.to, c.in_err-z.ensures);
+  agrees = λ M f h. rw (assignment_memory M f _ c.requires.starts.kind c.requires.at_value)
+      (rw (expect_found M s_bracket _ c.in_ok-x.ensures)
+      (until_missed M s_unbracket _ _ (c.in_ok-y.ensures.agrees M f (omega (arith, c.requires, c.in_ok-x.ensures, found_at (omega arith) c.in_ok-x.ensures))) c.in_err-z.ensures));
+})
 
-pub closed-c-requires : goal.closed-c-requires
-closed-c-requires c = stands c.requires.starts.few c.expr-o.ensures.moved
+pub returns-in_err-value : goal.returns-in_err-value
+returns-in_err-value c = rw (same_err c.from_residual-in_err-value.ensures.1) (record {
+  moved = omega (arith, c.requires, c.in_ok-x.ensures, found_at (omega arith) c.in_ok-x.ensures, c.in_ok-y.ensures.moved.to, c.in_ok-z.ensures, found_at (omega arith) c.in_ok-z.ensures, c.in_err-value.ensures);
+  agrees = λ M f h. rw (assignment_memory M f _ c.requires.starts.kind c.requires.at_value)
+      (rw (expect_found M s_bracket _ c.in_ok-x.ensures)
+      (until_ok M s_unbracket _ _ (c.in_ok-y.ensures.agrees M f (omega (arith, c.requires, c.in_ok-x.ensures, found_at (omega arith) c.in_ok-x.ensures))) c.in_ok-z.ensures (λ a p on₁.
+      expect_missed M s_equals _ c.in_err-value.ensures)));
+})
 
-pub closed-requires : goal.closed-requires
-closed-requires c = stands c.requires.starts.few (closed_moved (omega arith) c.closed-c.ensures c.expr-o.ensures.moved)
+pub returns-in_err-past : goal.returns-in_err-past
+returns-in_err-past c = rw (same_err c.from_residual-in_err-past.ensures.1) (record {
+  moved = record { to = c.in_err-past.ensures.moved.to };
+  agrees = λ M f h. rw (assignment_memory M f _ c.requires.starts.kind c.requires.at_value)
+      (rw (expect_found M s_bracket _ c.in_ok-x.ensures)
+      (until_ok M s_unbracket _ _ (c.in_ok-y.ensures.agrees M f (omega (arith, c.requires, c.in_ok-x.ensures, found_at (omega arith) c.in_ok-x.ensures))) c.in_ok-z.ensures (λ a p on₁.
+      rw (expect_found M s_equals _ c.in_ok-value.ensures)
+      (until_err M s_semicolon _ _ (c.in_err-past.ensures.agrees M f (omega (arith, c.requires, c.in_ok-x.ensures, found_at (omega arith) c.in_ok-x.ensures, c.in_ok-y.ensures.moved.to, c.in_ok-z.ensures, found_at (omega arith) c.in_ok-z.ensures, c.in_ok-value.ensures, found_at (omega arith) c.in_ok-value.ensures)))))));
+})
 
-pub expr-v-requires : goal.expr-v-requires
-expr-v-requires c = let w = closed_at (omega arith) c.in-At.is c.closed.ensures (closed_moved (omega arith) c.closed-c.ensures c.expr-o.ensures.moved) in
-    omega (arith, c.requires)
+pub returns-in_err-end : goal.returns-in_err-end
+returns-in_err-end c = rw (same_err c.from_residual-in_err-end.ensures.1) (record {
+  moved = omega (arith, c.requires, c.in_ok-x.ensures, found_at (omega arith) c.in_ok-x.ensures, c.in_ok-y.ensures.moved.to, c.in_ok-z.ensures, found_at (omega arith) c.in_ok-z.ensures, c.in_ok-value.ensures, found_at (omega arith) c.in_ok-value.ensures, c.in_ok-past.ensures.moved.to, c.in_err-end.ensures);
+  agrees = λ M f h. rw (assignment_memory M f _ c.requires.starts.kind c.requires.at_value)
+      (rw (expect_found M s_bracket _ c.in_ok-x.ensures)
+      (until_ok M s_unbracket _ _ (c.in_ok-y.ensures.agrees M f (omega (arith, c.requires, c.in_ok-x.ensures, found_at (omega arith) c.in_ok-x.ensures))) c.in_ok-z.ensures (λ a p on₁.
+      rw (expect_found M s_equals _ c.in_ok-value.ensures)
+      (until_missed M s_semicolon _ _ (c.in_ok-past.ensures.agrees M f (omega (arith, c.requires, c.in_ok-x.ensures, found_at (omega arith) c.in_ok-x.ensures, c.in_ok-y.ensures.moved.to, c.in_ok-z.ensures, found_at (omega arith) c.in_ok-z.ensures, c.in_ok-value.ensures, found_at (omega arith) c.in_ok-value.ensures))) c.in_err-end.ensures))));
+})
 
-pub closed-requires-in-At : goal.closed-requires-in-At
-closed-requires-in-At c = stands c.requires.starts.few c.expr-v.ensures.moved
+pub expr-requires : goal.expr-requires
+expr-requires c = omega (arith, c.requires, c.in_ok-x.ensures, found_at (omega arith) c.in_ok-x.ensures)
 
-pub put-p-requires : goal.put-p-requires
-put-p-requires c = let w = closed_at (omega arith) c.in-At.is c.closed.ensures
-    (closed_moved (omega arith) c.closed-c.ensures c.expr-o.ensures.moved) in
-    let u = closed_at (omega arith) c.in-At-closed.is c.closed-in-At.ensures c.expr-v.ensures.moved in omega (arith, c.requires)
+pub expect-requires-3 : goal.expect-requires-3
+expect-requires-3 c = omega (arith, c.requires, c.in_ok-x.ensures, found_at (omega arith) c.in_ok-x.ensures, c.in_ok-y.ensures.moved.to, c.in_ok-z.ensures, found_at (omega arith) c.in_ok-z.ensures)
 
-pub returns-in-At-closed : goal.returns-in-At-closed
+pub expr-requires-2 : goal.expr-requires-2
+expr-requires-2 c = omega (arith, c.requires, c.in_ok-x.ensures, found_at (omega arith) c.in_ok-x.ensures, c.in_ok-y.ensures.moved.to, c.in_ok-z.ensures, found_at (omega arith) c.in_ok-z.ensures, c.in_ok-value.ensures, found_at (omega arith) c.in_ok-value.ensures)
+
+pub returns : goal.returns
 unfolding flat_assignment
-returns-in-At-closed c = let w = closed_at (omega arith) c.in-At.is c.closed.ensures
-    (closed_moved (omega arith) c.closed-c.ensures c.expr-o.ensures.moved) in
-    let u = closed_at (omega arith) c.in-At-closed.is c.closed-in-At.ensures c.expr-v.ensures.moved in
-    record {
-      moved = omega (arith, c.requires, c.put-p.ensures);
-      agrees = λ M f h. rw (assignment_memory M f _ c.requires.starts.kind c.requires.at_value) (rw (expect_at M "[" 40 (c.args.at + 1) s_bracket
-          (c.args.at + 2) _
-          (sym c.kind-k.ensures.is ∙ c.if-k-ne-BRACKET.false) (omega arith))
-          (until2_at M s_unbracket s_equals _ _ c.in-At.is c.closed-c.ensures c.closed.ensures
-          (c.expr-o.ensures.agrees M f (omega (arith, c.requires))) (λ a on₁.
-          until_at M s_semicolon _ _ c.in-At-closed.is c.closed-in-At.ensures (c.expr-v.ensures.agrees M f (omega (arith, c.requires))) (λ e p on₂. read (on_more (on_more on₁ on₂) c.put-p.ensures)))));
-    }
-
-pub returns-in-Bad-closed : goal.returns-in-Bad-closed
-returns-in-Bad-closed c = let w = closed_at (omega arith) c.in-At.is c.closed.ensures
-    (closed_moved (omega arith) c.closed-c.ensures c.expr-o.ensures.moved) in
-    record {
-      moved = record { to = closed_bad c.in-Bad-closed.is c.closed-in-At.ensures c.expr-v.ensures.moved };
-      agrees = λ M f h. rw (assignment_memory M f _ c.requires.starts.kind c.requires.at_value) (rw (expect_at M "[" 40 (c.args.at + 1) s_bracket
-          (c.args.at + 2) _
-          (sym c.kind-k.ensures.is ∙ c.if-k-ne-BRACKET.false) (omega arith))
-          (until2_at M s_unbracket s_equals _ _ c.in-At.is c.closed-c.ensures c.closed.ensures
-          (c.expr-o.ensures.agrees M f (omega (arith, c.requires))) (λ a on₁.
-          until_bad M s_semicolon _ _ c.in-Bad-closed.is c.closed-in-At.ensures (c.expr-v.ensures.agrees M f (omega (arith, c.requires))))));
-    }
-
-pub returns-in-Bad : goal.returns-in-Bad
-returns-in-Bad c = record {
-  moved = record { to = closed_bad c.in-Bad.is c.closed.ensures (closed_moved (omega arith) c.closed-c.ensures c.expr-o.ensures.moved) };
-  agrees = λ M f h. rw (assignment_memory M f _ c.requires.starts.kind c.requires.at_value) (rw (expect_at M "[" 40 (c.args.at + 1) s_bracket (c.args.at + 2) _
-      (sym c.kind-k.ensures.is ∙ c.if-k-ne-BRACKET.false) (omega arith))
-      (until2_bad M s_unbracket s_equals _ _ c.in-Bad.is c.closed-c.ensures c.closed.ensures (c.expr-o.ensures.agrees M f (omega (arith, c.requires)))));
+returns c = record {
+  moved = omega (arith, c.requires, c.in_ok-x.ensures, found_at (omega arith) c.in_ok-x.ensures, c.in_ok-y.ensures.moved.to, c.in_ok-z.ensures, found_at (omega arith) c.in_ok-z.ensures, c.in_ok-value.ensures, found_at (omega arith) c.in_ok-value.ensures, c.in_ok-past.ensures.moved.to, c.in_ok-end.ensures, found_at (omega arith) c.in_ok-end.ensures, c.put.ensures);
+  agrees = λ M f h. rw (assignment_memory M f _ c.requires.starts.kind c.requires.at_value)
+      (rw (expect_found M s_bracket _ c.in_ok-x.ensures)
+      (until_ok M s_unbracket _ _ (c.in_ok-y.ensures.agrees M f (omega (arith, c.requires, c.in_ok-x.ensures, found_at (omega arith) c.in_ok-x.ensures))) c.in_ok-z.ensures (λ a p on₁.
+      rw (expect_found M s_equals _ c.in_ok-value.ensures)
+      (until_ok M s_semicolon _ _ (c.in_ok-past.ensures.agrees M f (omega (arith, c.requires, c.in_ok-x.ensures, found_at (omega arith) c.in_ok-x.ensures, c.in_ok-y.ensures.moved.to, c.in_ok-z.ensures, found_at (omega arith) c.in_ok-z.ensures, c.in_ok-value.ensures, found_at (omega arith) c.in_ok-value.ensures))) c.in_ok-end.ensures (λ b p on₂.
+      read (on_more (on_more on₁ on₂) c.put.ensures))))));
 }
