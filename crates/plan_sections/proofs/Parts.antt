@@ -7,6 +7,9 @@ use native.Mathlib.Numerals.{add-one}
 use native.Mathlib.Omega.{arith}
 use lib.ListN.{length}
 use lib.Dec.{eqb, leb, ltb}
+use Rattle.std.specs.Bool.{MatchBool}
+use Rattle.std.specs.List.{range_with_len, AllWithin, HoldsAt}
+use Rattle.std.proofs.lemmas.List.FromFn.{length-range_with_len, get_or-range_with_len}
 use native.Mathlib.Nat.{mod-lt, one-mul, zero-mul}
 use lib.Bits.{bit_and}
 use lib.Pow.{pow_pos}
@@ -22,6 +25,35 @@ use Rattle.plan.proofs.Tests.{and_left, and_right}
 pub all_next : (p : List ℕ) (n : ℕ) (f : ℕ → Bool) {a b : Bool} → a ≡ all_up_to p n f → b ≡ f n → (a && b) ≡ all_up_to p (n + 1) f
 unfolding all_up_to
 all_next p n f d e = rw (add-one n) (ap₂ ◌&&◌ d e)
+
+-- what `all` over `0..n` answers of a test
+pub all_yes : (p : List ℕ) (n : ℕ) (f : ℕ → Bool) → ((k : ℕ) → k < n → f k ≡ true) → all_up_to p n f ≡ true
+unfolding all_up_to
+all_yes p zero f h = refl
+all_yes p (suc n) f h = ap₂ ◌&&◌ (all_yes p n f (λ k l. h k (omega arith))) (h n (omega arith))
+
+pub all_not : (p : List ℕ) (n : ℕ) (f : ℕ → Bool) (k : ℕ) → k < n → f k ≡ false → all_up_to p n f ≡ false
+unfolding all_up_to
+all_not p zero f k l e = absurd (omega arith)
+all_not p (suc n) f k l e =
+    elim (dec_lt k n) [
+      | yes h ↦ ap (λ (b : Bool). b && f n) (all_not p n f k h e)
+      | no h ↦ let i : k ≡ n = omega arith in ap (λ (b : Bool). all_up_to p n f && b) (ap f (sym i) ∙ e) ∙ and-false (all_up_to p n f)
+    ]
+
+abbrev pub Told : ℕ → (ℕ → Bool) → Bool → Type 0
+Told n f r = MatchBool r (AllWithin (λ k. f k ≡ true) (range_with_len 0 n) 0 (length (range_with_len 0 n))) ((k : ℕ) × (k < length (range_with_len 0 n)) × HoldsAt (λ k. f k ≡ false) (range_with_len 0 n) k)
+
+pub all_told : (p : List ℕ) (n : ℕ) (f : ℕ → Bool) (r : Bool) → Told n f r → r ≡ all_up_to p n f
+all_told p n f true t =
+    let l = length-range_with_len 0 n in
+    sym (all_yes p n f (λ k h. let e : 0 + k ≡ k = omega arith in ap f (sym (get_or-range_with_len 0 n k 0 h ∙ e)) ∙ t k 0 (omega arith) (omega (arith, l))))
+all_told p n f false t =
+    let l = length-range_with_len 0 n in
+    let k = t.0 in
+    let h : k < n = let g = t.1 in omega (arith, l, g) in
+    let e : 0 + k ≡ k = omega arith in
+    sym (all_not p n f k h (ap f (sym (get_or-range_with_len 0 n k 0 h ∙ e)) ∙ t.2 0))
 
 -- no bit below k is in both masks where the number of the bits that both have is 0
 nothing : (n m : ℕ) → m ≡ 0 * n + m
@@ -42,6 +74,9 @@ apart_number p a b zero = refl
 apart_number p a b (suc k) =
     ap (λ (c : Bool). c && eqb (bit_of a k * bit_of b k) 0) (apart_number p a b k)
     ∙ both_zero (bit_of a k) (bit_of b k) (2 ^ k) (number_of k (λ i. min (bit_of a i) (bit_of b i))) (bit_lt a k) (bit_lt b k) (pow_pos k)
+
+pub apart_any : (p q : List ℕ) (a b k : ℕ) → apart p a b k ≡ apart q a b k
+apart_any p q a b k = apart_number p a b k ∙ sym (apart_number q a b k)
 
 pub apart_low : (p : List ℕ) (a b k : ℕ) → eqb (bit_and a b % 2 ^ k) 0 ≡ apart p a b k
 apart_low p a b k =
@@ -151,27 +186,6 @@ module _ (p : List ℕ) (h : sections_ok p ≡ true) where
       let e = code_end in omega arith
 
 -- ---- the sections in turn
-
-module _ (p : List ℕ) {a : Bool} (ea : a ≡ ports_part p) where
-  pub ports_not : a ≡ false → false ≡ sections_ok p
-  ports_not h = sym (sections_parts p ∙ ap (λ (x : Bool). x && (memories_part p && (groups_part p && rules_part p))) (sym ea ∙ h))
-
-  module _ {b : Bool} (ha : a ≡ true) (eb : b ≡ memories_part p) where
-    from_memories : sections_ok p ≡ (memories_part p && (groups_part p && rules_part p))
-    from_memories = sections_parts p ∙ ap (λ (x : Bool). x && (memories_part p && (groups_part p && rules_part p))) (sym ea ∙ ha)
-
-    pub memories_not : b ≡ false → false ≡ sections_ok p
-    memories_not h = sym (from_memories ∙ ap (λ (x : Bool). x && (groups_part p && rules_part p)) (sym eb ∙ h))
-
-    module _ {c : Bool} (hb : b ≡ true) (ec : c ≡ groups_part p) where
-      from_groups : sections_ok p ≡ (groups_part p && rules_part p)
-      from_groups = from_memories ∙ ap (λ (x : Bool). x && (groups_part p && rules_part p)) (sym eb ∙ hb)
-
-      pub groups_not : c ≡ false → false ≡ sections_ok p
-      groups_not h = sym (from_groups ∙ ap (λ (x : Bool). x && rules_part p) (sym ec ∙ h))
-
-      pub rules_last : c ≡ true → rules_part p ≡ sections_ok p
-      rules_last h = sym (from_groups ∙ ap (λ (x : Bool). x && rules_part p) (sym ec ∙ h))
 
 pub few_rules : (p : List ℕ) → groups_part p ≡ true → rule_count p ≤ 32
 unfolding groups_part

@@ -1,9 +1,9 @@
 // Whether the sections of a plan are sound: each count within its limit, and what each section holds.
 // What comes in: a list of 32-bit numbers, of any length.
 // What goes out: whether its sections hold, and end where the list does.
-#![tactic(auto)]
+#![tactic(auto, unfolding(plan::specs::Sound::port_ok, plan::specs::Sound::memory_fits, plan::specs::Sound::group_ok, plan::specs::Sound::rule_ok, crate::specs::Parts::ports_part, crate::specs::Parts::memories_part, crate::specs::Parts::groups_part, crate::specs::Parts::rules_part))]
 
-ghost use Rattle.std.specs.Prelude.{◌≡◌, ◌&&◌, suc, ◌+◌, ◌≤◌, eqb, leb, length};
+ghost use Rattle.std.specs.Prelude.{[], ◌≡◌, ◌&&◌, suc, ◌+◌, ◌≤◌, eqb, leb, length};
 ghost use Rattle.language.specs.Limits.{limits};
 ghost use Rattle.plan.specs.Layout.{form, port_count, memory_count, cells_before, group_count, rules_before, rule_count, code_before, code_from, code_count};
 ghost use Rattle.plan.specs.Sound.{port_ok, memory_fits, group_ok, rule_ok, all_up_to, sections_ok};
@@ -22,19 +22,7 @@ fn port_ok(plan: &[u32], i: u32) -> bool
     ensures { result ≡ port_ok plan.now i }
 {
     let p = port_at(plan, i);
-    (p % OUTPUT <= Plan::WIDTH) & (p < PORT_PAST)
-}
-
-fn ports_hold(plan: &[u32], n: u32) -> bool
-    ensures { result ≡ all_up_to plan.now n (port_ok plan.now) }
-{
-    let mut ok = true;
-    let mut i = 0u32;
-    while i < n {
-        ok = ok & port_ok(plan, i);
-        i += 1;
-    }
-    ok
+    p % OUTPUT <= Plan::WIDTH && p < PORT_PAST
 }
 
 // Above every port: no output has more than OUTPUT beside its width.
@@ -47,11 +35,7 @@ fn ports_ok(plan: &[u32]) -> bool
     ensures { result ≡ ports_part plan.now }
 {
     let n = port_count(plan);
-    if (number(plan, 0) == 1) & (1 <= n) & (n <= Plan::PORTS) {
-        ports_hold(plan, n)
-    } else {
-        false
-    }
+    number(plan, 0) == 1 && 1 <= n && n <= Plan::PORTS && (0..n).all(|i| port_ok(plan, i))
 }
 
 fn memory_fits(plan: &[u32], m: u32) -> bool
@@ -59,34 +43,17 @@ fn memory_fits(plan: &[u32], m: u32) -> bool
     ensures { result ≡ memory_fits plan.now m }
 {
     let size = memory_size(plan, m);
-    (memory_width(plan, m) <= Plan::WIDTH)
-        & (1 <= size)
-        & (size <= Plan::SIZE)
-        & (cells_before(plan, m + 1) <= CELLS)
-}
-
-fn memories_hold(plan: &[u32], n: u32) -> bool
-    requires { n ≤ limits.memories }
-    ensures { result ≡ all_up_to plan.now n (memory_fits plan.now) }
-{
-    let mut ok = true;
-    let mut m = 0u32;
-    while m < n {
-        ok = ok & memory_fits(plan, m);
-        m += 1;
-    }
-    ok
+    memory_width(plan, m) <= Plan::WIDTH
+        && 1 <= size
+        && size <= Plan::SIZE
+        && cells_before(plan, m + 1) <= CELLS
 }
 
 fn memories_ok(plan: &[u32]) -> bool
     ensures { result ≡ memories_part plan.now }
 {
     let n = memory_count(plan);
-    if n <= Plan::MEMORIES {
-        memories_hold(plan, n)
-    } else {
-        false
-    }
+    n <= Plan::MEMORIES && (0..n).all(|m| memory_fits(plan, m))
 }
 
 // At least one rule, and with those before no more than there are.
@@ -94,20 +61,7 @@ fn group_ok(plan: &[u32], g: u32) -> bool
     requires { g ≤ limits.groups }
     ensures { result ≡ group_ok plan.now g }
 {
-    (1 <= group_at(plan, g)) & (rules_before(plan, g + 1) <= place(rule_count(plan)))
-}
-
-fn groups_hold(plan: &[u32], n: u32) -> bool
-    requires { n ≤ limits.groups }
-    ensures { result ≡ all_up_to plan.now n (group_ok plan.now) }
-{
-    let mut ok = true;
-    let mut g = 0u32;
-    while g < n {
-        ok = ok & group_ok(plan, g);
-        g += 1;
-    }
-    ok
+    1 <= group_at(plan, g) && rules_before(plan, g + 1) <= place(rule_count(plan))
 }
 
 fn groups_ok(plan: &[u32]) -> bool
@@ -115,27 +69,23 @@ fn groups_ok(plan: &[u32]) -> bool
 {
     let n = group_count(plan);
     let rules = rule_count(plan);
-    if (1 <= n) & (n <= Plan::GROUPS) & (rules <= Plan::RULES) {
-        groups_hold(plan, n) & (rules_before(plan, n) == place(rules))
-    } else {
-        false
-    }
+    1 <= n
+        && n <= Plan::GROUPS
+        && rules <= Plan::RULES
+        && rules_before(plan, n) == place(rules)
+        && (0..n).all(|g| group_ok(plan, g))
 }
 
 // No bit below k is in both masks.
-fn apart(plan: &[u32], a: u32, b: u32, k: u32) -> bool
-    ensures { result ≡ sound_apart plan.now a b k }
+#[tactic(auto, using(crate::proofs::Parts::apart_low))]
+fn apart(a: u32, b: u32, k: u32) -> bool
+    ensures { result ≡ sound_apart [] a b k }
 {
-    low(wide(a & b), k) == 0
-}
-
-fn wide(x: u32) -> u64
-    ensures { result ≡ x }
-{
-    x as u64
+    low(u64::from(a & b), k) == 0
 }
 
 // The code of the rules up to this one ends within the count.
+#[tactic(auto, using(crate::proofs::Parts::apart_any), unfolding(plan::specs::Sound::rule_ok))]
 fn rule_ok(plan: &[u32], r: u32, end: usize, count: usize) -> bool
     requires { (end ≡ code_before plan.now (suc r)) × (count ≡ code_count plan.now) }
     ensures { result ≡ rule_ok plan.now r }
@@ -143,27 +93,28 @@ fn rule_ok(plan: &[u32], r: u32, end: usize, count: usize) -> bool
     let a = present_at(plan, r);
     let b = absent_at(plan, r);
     let n = port_count(plan);
-    let masks = within(wide(a), n)
-        & within(wide(b), n)
-        & apart(plan, a, b, n)
-        & (0 < wide(a) + wide(b));
-    let whole = length_at(plan, r) % 4 == 0;
-    masks & whole & (end <= count)
+    within(u64::from(a), n)
+        && within(u64::from(b), n)
+        && apart(a, b, n)
+        && (a != 0 || b != 0)
+        && length_at(plan, r) % 4 == 0
+        && end <= count
 }
 
+// A loop and no `all`, since each rule's code ends where those before it do.
+#[tactic(auto, using(crate::proofs::Parts::all_next, crate::proofs::Parts::all_not, crate::proofs::Parts::code_next), unfolding(plan::specs::Sound::all_up_to, plan::specs::Layout::code_before))]
 fn rules_hold(plan: &[u32], n: u32, count: usize) -> bool
     requires { (n ≤ limits.rules) × (count ≡ code_count plan.now) }
     ensures { result ≡ all_up_to plan.now n (rule_ok plan.now) }
 {
-    let mut ok = true;
-    let mut end = 0usize;
-    let mut r = 0u32;
-    while r < n {
+    let mut end = 0;
+    for r in 0..n {
         end += place(length_at(plan, r));
-        ok = ok & rule_ok(plan, r, end, count);
-        r += 1;
+        if !rule_ok(plan, r, end, count) {
+            return false;
+        }
     }
-    ok
+    true
 }
 
 // The lengths add up to the count, and nothing follows.
@@ -174,23 +125,14 @@ fn rules_ok(plan: &[u32]) -> bool
     let n = rule_count(plan);
     let code = place(code_count(plan));
     rules_hold(plan, n, code)
-        & (code_before(plan, n) == code)
-        & (plan.len() == code_from(plan) + 1 + code)
+        && code_before(plan, n) == code
+        && plan.len() == code_from(plan) + 1 + code
 }
 
 // A section is looked at where those before it are in order.
+#[tactic(auto, using(crate::proofs::Parts::sections_parts, crate::proofs::Parts::few_rules))]
 pub fn sections_ok(plan: &[u32]) -> bool
     ensures { result ≡ sections_ok plan.now }
 {
-    if !ports_ok(plan) {
-        return false;
-    }
-    if !memories_ok(plan) {
-        return false;
-    }
-    if groups_ok(plan) {
-        rules_ok(plan)
-    } else {
-        false
-    }
+    ports_ok(plan) && memories_ok(plan) && groups_ok(plan) && rules_ok(plan)
 }

@@ -1,21 +1,19 @@
--- `ports_ok` meets its contract. Assumes nothing.
-use Prim.Native.Nat.{ℕ}
-use mathlib.Core.Path.{◌≡◌, ap, ◌∙◌}
-use mathlib.Core.Bool.{true, false, ◌&&◌}
-use lib.Dec.{eqb, leb}
-use Rattle.plan.specs.Layout.{form, port_count}
+-- `ports_ok` meets its contract: `all` answers as `all_up_to` does. Assumes nothing.
+use Rattle.std.proofs.Common.{◌≡◌, ℕ, true, false, refl, arith, rules}
+use Rattle.std.proofs.lemmas.Grind.{common_steps}
+use Rattle.std.proofs.lemmas.Iterator.{cases_from_all, YieldsList-from_range}
 use Rattle.plan.specs.Sound.{all_up_to, port_ok}
 use Rattle.plan_sections.specs.Parts.{ports_part}
+use Rattle.plan_sections.proofs.Parts.{all_told}
 use Rattle.plan_sections.proofs.ports_ok.Goals as goal
 
-pub returns-then-number-n : goal.returns-then-number-n
+pub returns-then-n-le-PORTS : goal.returns-then-n-le-PORTS
 unfolding ports_part
-returns-then-number-n c =
-    let s = c in
-    let p = s.args.plan.now in
-    let k : (eqb (form p) 1 && leb 1 (port_count p) && leb (port_count p) 16) ≡ true = rw (c.number.ensures, c.port_count-n.ensures) at c.if-number-n.true in
-    rw k (c.ports_hold.ensures ∙ ap (λ (n : ℕ). all_up_to p n (port_ok p)) c.port_count-n.ensures)
-
-pub returns-else-number-n : goal.returns-else-number-n
-unfolding ports_part
-returns-else-number-n c = let k : (eqb (form c.args.plan.now) 1 && leb 1 (port_count c.args.plan.now) && leb (port_count c.args.plan.now) 16) ≡ false = rw (c.number.ensures, c.port_count-n.ensures) at c.if-number-n.false in rw k
+returns-then-n-le-PORTS c =
+    let p = c.args.plan.now in
+    let n = c.port_count-n.result in
+    let told : c.all.result ≡ all_up_to p n (port_ok p) =
+    all_told p n (port_ok p) c.all.result
+    (cases_from_all _ _ _ (λ (k : ℕ). port_ok c.args.plan.now k ≡ true) (λ (k : ℕ). port_ok c.args.plan.now k ≡ false) c.all.ensures.ran
+    (YieldsList-from_range 0 c.port_count-n.result c.port_count-n.result refl (omega arith)) (λ x q k. search rules) (λ x q k. search rules)) in
+    grind (arith, common_steps, told)
