@@ -1,11 +1,10 @@
 -- The tests say what they test. Assumes nothing.
-use mathlib.Core.Path.{◌≡◌, refl, sym}
+use mathlib.Core.Path.{◌≡◌, refl, sym, ◌∙◌}
 use mathlib.Core.Bool.{Bool, true, false, ◌&&◌}
-use Prim.Native.Nat.{ℕ, ◌+◌, ◌-◌, ◌*◌, ◌/◌, ◌^◌, ◌≤◌, ◌<◌}
-use native.Mathlib.Omega.{arith}
-use lib.Dec.{leb}
-use borrow.Author.Tests.{lt-ltb, le-ltb, ltb-true, leb-true, leb-false}
-use native.Mathlib.Nat.{div-lt_iff_lt-mul, le-div_iff_mul-le}
+use Prim.Native.Nat.{ℕ, ◌+◌, ◌*◌, ◌^◌, ◌≤◌, ◌<◌}
+use borrow.Author.Tests.{lt-ltb, le-ltb, ltb-true}
+use native.Mathlib.Nat.{le_of_suc-le-suc, lt_of_not-le}
+use Rattle.std.specs.Prelude.{Option, Some, None, is_some, SomeIff}
 use Rattle.language.specs.declared.Exact.{Exact}
 use Rattle.exact_room.specs.Tests.{fits, has_space, sums_fit, products_fit, has_room}
 use Rattle.exact.specs.Room.{Space, Room}
@@ -71,18 +70,8 @@ test_of_room x y m =
     and _ _ (and _ _ (and _ _ (and _ _ (fit (x.up + y.up) m.uu) (fit (x.down + y.down) m.dd)) (fit (x.up + y.down) m.ud)) (fit (x.down + y.up) m.du))
     (and _ _ (and _ _ (and _ _ (fit (x.a * y.a) m.aa) (fit (x.b * y.b) m.bb)) (fit (x.a * y.b) m.ab)) (fit (x.b * y.a) m.ba))
 
--- ---- the tests of the code
+-- ---- the test of the code
 
-pub sum_test : (m a b : ℕ) → m + 1 ≡ 2 ^ 64 → b ≤ m → leb a (m - b) ≡ fits (a + b)
-sum_test m a b e h = go (leb a (m - b)) refl
-  where
-    go : (t : Bool) → leb a (m - b) ≡ t → t ≡ fits (a + b)
-    go true f = sym (fit (a + b) (omega (arith, e, leb-true a (m - b) f)))
-    go false f = sym (unfit (a + b) (omega (arith, e, leb-false a (m - b) f)))
-
-pub product_test : (m a b : ℕ) → m + 1 ≡ 2 ^ 64 → 0 < b → leb a (m / b) ≡ fits (a * b)
-product_test m a b e h = go (leb a (m / b)) refl
-  where
-    go : (t : Bool) → leb a (m / b) ≡ t → t ≡ fits (a * b)
-    go true f = sym (fit (a * b) (omega (arith, e, (le-div_iff_mul-le {k = b} {x = a} {y = m} h).0 (leb-true a (m / b) f))))
-    go false f = sym (unfit (a * b) (omega (arith, e, (div-lt_iff_lt-mul {k = b} {x = m} {y = a} h).0 (leb-false a (m / b) f))))
+pub fitting : (r : Option ℕ) (b : Bool) (n : ℕ) → SomeIff r (n < 2 ^ 64) n → b ≡ is_some r → b ≡ fits n
+fitting (Some x) b n h e = e ∙ sym (fit n h.0)
+fitting None b n h e = e ∙ sym (unfit n (le_of_suc-le-suc (lt_of_not-le h)))

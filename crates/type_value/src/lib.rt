@@ -1,6 +1,6 @@
 // The value of a type with exact logs, at widths of the unknowns.
 // What comes in: a type in code, a number a node, each node after its operands; the unknowns stand by index.
-// What goes out: the value, a width, or a bit position or Outside; 0 where no type's code stands.
+// What goes out: the value, a width, or a bit position, None outside; 0 where no type's code stands.
 #![tactic(auto)]
 
 ghost use Rattle.std.specs.Prelude.{◌≡◌, ◌+◌, ◌*◌, ◌/◌, ◌%◌, ◌≤◌, ◌<◌, length};
@@ -11,7 +11,7 @@ ghost use Rattle.type_value.specs.Terms.{value_at};
 ghost use Rattle.type_value.specs.Walk.{part, EachType, leaf_of, unary_of, binary_of, Ready, last_has_space, last_two_have_room, is_ready, alone, value_of, exact_at, stored, waiting, Turned};
 ghost use Rattle.exact_room.specs.Tests.{fits, has_space, sums_fit, products_fit, has_room};
 
-use exact::{Position, ceil, floor, greater, log, minus, number, plus, position_of, width_of};
+use exact::{ceil, floor, greater, log, minus, number, plus, position_of, width_of};
 use exact_room::{has_room, has_space};
 use language::Exact;
 
@@ -184,7 +184,7 @@ pub fn width_at(code: &[u32], from: usize, end: usize, ws: &[u32]) -> u64
     width_of(value_at(code, from, end, ws))
 }
 
-pub fn position_at(code: &[u32], from: usize, end: usize, ws: &[u32]) -> Position
+pub fn position_at(code: &[u32], from: usize, end: usize, ws: &[u32]) -> Option<u64>
     ensures each_type { EachType code.now from end ws.now (λ t. result ≡ positioned (position_of (value_at ws.now t))) }
     ensures value { end ≤ length code.now → result ≡ positioned (position_of (value_of ws.now (part code.now from end))) }
 {

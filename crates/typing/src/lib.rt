@@ -3,22 +3,12 @@
 // What goes out: the least widths that satisfy every type, or false.
 #![tactic(auto)]
 
-ghost use Rattle.std.specs.Prelude.{◌≡◌, List, length, replicate};
+ghost use Rattle.std.specs.Prelude.{◌≡◌, List, length};
 ghost use Rattle.type_value.specs.Terms.{Term};
 ghost use Rattle.typing.specs.Solved.{Coded, Answer};
 
 use language::Plan;
 use type_value::width_at;
-
-fn fill(ws: &mut [u32], w: u32)
-    ensures { ws.new ≡ replicate (length ws.old) w }
-{
-    let mut i = 0;
-    while i < ws.len() {
-        ws[i] = w;
-        i += 1;
-    }
-}
 
 // The least widths that satisfy every type, or false and every cell 0 where none from 0 to 32 do.
 // From zeros a width only rises, and after each rise the round starts again at 0. With 16 ports, which come first, and 8 memories, which no type mentions:
@@ -28,12 +18,13 @@ pub fn solve(code: &[u32], starts: &[usize], ends: &[usize], ws: &mut [u32]) -> 
     requires ws_len { length ws.old ≡ length starts.now }
     ensures { (ts : List Term) → Coded ts code.now starts.now ends.now → Answer result ts ws.new }
 {
-    fill(ws, 0);
+    ws.fill(0);
+    // A `while`, as i also goes back.
     let mut i = 0;
     while i < starts.len() {
         let v = width_at(code, starts[i], ends[i], ws);
-        if (Plan::WIDTH as u64) < v {
-            fill(ws, 0);
+        if u64::from(Plan::WIDTH) < v {
+            ws.fill(0);
             return false;
         }
         let w = v as u32;

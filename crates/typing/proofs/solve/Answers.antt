@@ -2,46 +2,28 @@
 use mathlib.Core.Path.{sym, ap, ◌∙◌, subst}
 use Prim.Native.Nat.{ℕ, ◌≤◌, ◌<◌}
 use native.Mathlib.Omega.{arith}
-use lib.ListN.{length, replicate, length-set, length-replicate}
+use lib.ListN.{length, replicate, length-set}
 use Rattle.typing.proofs.Progress.{begins, in_range, told, none, all_fine, same, change, less, measure_falls, small_set, finish}
 use Rattle.typing.proofs.solve.Goals as goal
-
-pub fill-requires : goal.fill-requires
-fill-requires c = tt
 
 pub loop-i-init : goal.loop-i-init
 loop-i-init c =
     let s = c in
-    let b = begins s.args.starts.now c.fill.new.ws (length s.args.ws.now) c.fill.ensures s.requires.ws_len in
+    let b = begins s.args.starts.now c.fill.new.self (length s.args.ws.now) (c.fill.ensures.after (λ y e. e)) s.requires.ws_len in
     (b.0, b.1, λ ts k. b.2 ts)
-
-pub offset_bounds-starts-i : goal.offset_bounds-starts-i
-offset_bounds-starts-i c = omega arith
-
-pub bounds-starts-i : goal.bounds-starts-i
-bounds-starts-i c = omega arith
-
-pub offset_bounds-ends-i : goal.offset_bounds-ends-i
-offset_bounds-ends-i c = omega arith
 
 pub bounds-ends-i : goal.bounds-ends-i
 bounds-ends-i c =
     let s = c in
     omega (arith, s.requires.coded.1.count, s.requires.coded.1.counted)
 
-pub width_at-v-requires : goal.width_at-v-requires
-width_at-v-requires c = tt
-
-pub fill-requires-then-v : goal.fill-requires-then-v
-fill-requires-then-v c = tt
-
-pub shape_of-ws-then-v : goal.shape_of-ws-then-v
-shape_of-ws-then-v c =
+pub shape_of-ws-then-from-v : goal.shape_of-ws-then-from-v
+shape_of-ws-then-from-v c =
     let l = c.loop-i in
-    ap length c.fill-then-v.ensures ∙ length-replicate (length l.ws) _ ∙ l.invariant.0 ∙ sym c.requires.ws_len
+    c.fill-then-from-v.ensures.len ∙ l.invariant.0 ∙ sym c.requires.ws_len
 
-pub returns-then-v : goal.returns-then-v
-returns-then-v c =
+pub returns-then-from-v : goal.returns-then-from-v
+returns-then-from-v c =
     let s = c in
     let code = s.args.code.now in
     let starts = s.args.starts.now in
@@ -49,26 +31,12 @@ returns-then-v c =
     let l = c.loop-i in
     let w = c.width_at-v in
     let h : l.i < length starts = omega arith in
+    let g : 32 < w.result = omega (arith, c.from.ensures) in
     λ ts k. (
       none ts (all_fine ts code starts ends k) l.ws l.i w.result (in_range ts code starts ends k l.i h)
-          (told ts code starts ends k l.ws l.i w.result l.invariant.0 l.invariant.1 h w.ensures.each_type) c.if-v.true (l.invariant.2 ts k),
-      c.fill-then-v.ensures ∙ ap (λ (n : ℕ). replicate {A = ℕ} n 0) (l.invariant.0 ∙ k.count),
+          (told ts code starts ends k l.ws l.i w.result l.invariant.0 l.invariant.1 h w.ensures.each_type) g (l.invariant.2 ts k),
+      c.fill-then-from-v.ensures.after (λ y e. e) ∙ ap (λ (n : ℕ). replicate {A = ℕ} n 0) (l.invariant.0 ∙ k.count),
     )
-
-pub overflow_cast-w : goal.overflow_cast-w
-overflow_cast-w c = omega arith
-
-pub offset_bounds-ws-i : goal.offset_bounds-ws-i
-offset_bounds-ws-i c = omega arith
-
-pub bounds-ws-i : goal.bounds-ws-i
-bounds-ws-i c = omega arith
-
-pub overflow_add-i : goal.overflow_add-i
-overflow_add-i c = omega arith
-
-pub loop-i-smaller-then-w-ws : goal.loop-i-smaller-then-w-ws
-loop-i-smaller-then-w-ws c = omega arith
 
 pub loop-i-preserved-then-w-ws : goal.loop-i-preserved-then-w-ws
 loop-i-preserved-then-w-ws c =
@@ -80,12 +48,6 @@ loop-i-preserved-then-w-ws c =
     let w = c.width_at-v in
     let h : l.i < length starts = omega arith in
     (l.invariant.0, l.invariant.1, λ ts k. same ts l.ws l.i (sym c.if-w-ws.true ∙ told ts code starts ends k l.ws l.i w.result l.invariant.0 l.invariant.1 h w.ensures.each_type) (l.invariant.2 ts k))
-
-pub offset_bounds-ws-i-else-w-ws : goal.offset_bounds-ws-i-else-w-ws
-offset_bounds-ws-i-else-w-ws c = omega arith
-
-pub bounds-ws-i-else-w-ws : goal.bounds-ws-i-else-w-ws
-bounds-ws-i-else-w-ws c = omega arith
 
 pub loop-i-smaller : goal.loop-i-smaller
 loop-i-smaller c =
