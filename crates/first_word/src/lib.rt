@@ -37,7 +37,7 @@ fn named(text: &[u8], at: usize) -> bool
     gaps::gap(text, at) != 0 && p < text.len() && !spelling::is_digit(text[p]) && own_name(text, p)
 }
 
-// The kind of a fixed word that is spelled like a name.
+// The kind of a fixed word that is spelled like a name. The keywords' kinds go in the order of the words, so that no table of all is plainer.
 #[tactic(auto, using(std::proofs::lemmas::Bool::Decides::nat_tests), unfolding(signs::specs::Signs::row_kind))]
 fn row_kind(row: usize) -> u32
     requires { row < fixed_rows }

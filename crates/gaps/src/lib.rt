@@ -30,7 +30,7 @@ fn close(text: &[u8], at: usize) -> Option<usize>
     None
 }
 
-// How long the separator at a place is; 0 where none stands there.
+// How long the separator at a place is; 0 where none stands there, as the definition's `gap` has it.
 #[tactic(auto, using(crate::proofs::Gaps::gap_laws))]
 pub fn gap(text: &[u8], at: usize) -> usize
     requires { at ≤ length text.now }

@@ -48,6 +48,7 @@ fn number_of(n: usize, v: u64) -> Item
     ensures { result ≡ number_item n v }
 {
     if v <= NUMBER {
+        // the limit fits 32 bits: `try_from` would test the same once more
         Item::Word(kinds::NUMBER, n, v as u32)
     } else {
         Item::Wrong

@@ -15,6 +15,20 @@ pub enum Class {
     Digits(usize),
 }
 
+impl Class {
+    // Whether a byte is of the class.
+    #[tactic(auto, unfolding(crate::specs::Spans::test_of))]
+    fn has(self, b: u8) -> bool
+        ensures { result ≡ test_of self b }
+    {
+        match self {
+            Class::Line => b != b'\n',
+            Class::Name => spelling::is_name_byte(b),
+            Class::Digits(base) => digit_in(base, b),
+        }
+    }
+}
+
 // What a letter or digit is worth.
 #[tactic(auto, using(std::proofs::lemmas::Bool::Decides::nat_tests), unfolding(language::specs::Words::plain_byte, language::specs::Words::letter, language::specs::Words::digit, language::specs::Words::digit_of))]
 pub fn digit_of(b: u8) -> usize
@@ -36,24 +50,12 @@ pub fn digit_in(base: usize, b: u8) -> bool
     spelling::is_plain(b) && digit_of(b) < base
 }
 
-// Whether a byte is of a class.
-#[tactic(auto, unfolding(crate::specs::Spans::test_of))]
-fn passes(class: Class, b: u8) -> bool
-    ensures { result ≡ test_of class b }
-{
-    match class {
-        Class::Line => b != b'\n',
-        Class::Name => spelling::is_name_byte(b),
-        Class::Digits(base) => digit_in(base, b),
-    }
-}
-
 // How many bytes of a class stand from a place on.
 pub fn span(text: &[u8], at: usize, class: Class) -> usize
     requires { at ≤ length text.now }
     ensures { (at + result ≤ length text.now) × (result ≡ length (span_of (test_of class) (drop at text.now))) }
 {
-    text[at..].iter().take_while(|&&b| passes(class, b)).count()
+    text[at..].iter().take_while(|&&b| class.has(b)).count()
 }
 
 // Whether two bytes stand at a place.

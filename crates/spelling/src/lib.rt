@@ -69,7 +69,7 @@ pub fn same_bytes(a: &[u8], b: &[u8]) -> bool
     a == b
 }
 
-// Which fixed word the run is, in the order of the list; `FIXED` where it is none.
+// Which fixed word the run is, in the order of the list; `FIXED` where it is none, as the definition's `index` has it.
 pub fn spelled(run: &[u8]) -> usize
     ensures { result ≡ index (spellings fixed_names) run.now }
 {
