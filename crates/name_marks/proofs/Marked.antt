@@ -1,20 +1,47 @@
 -- The marks of names: the memories on the tape, and that a table whose names are remarked is a marked table. Assumes nothing.
 use mathlib.Core.Path.{◌≡◌, refl, sym, ap, ◌∙◌}
-use mathlib.Core.Bool.{Bool, true, false}
+use mathlib.Core.Bool.{Bool, true, false, ◌&&◌, ◌||◌}
 use mathlib.Core.List.{List, [], ◌∷◌}
-use Prim.Native.Nat.{ℕ, suc, ◌+◌, ◌*◌, ◌≤◌, ◌<◌}
+use Prim.Native.Nat.{ℕ, zero, suc, ◌+◌, ◌*◌, ◌≤◌, ◌<◌}
 use native.Mathlib.Omega.{arith}
+use mir.Val.{bool_byte}
 use lib.Dec.{eqb}
 use lib.ListN.{length, get_or, set, take, drop, length-set, length-take, length-drop}
 use lib.Seq.{drop-cons, get_or-take, get_or-set_same, get_or-set_other}
 use borrow.Author.Tests.{eq-eqb, ne_eqb, eqb-true, eqb-false}
 use Rattle.language.specs.Text.{same, among}
 use Rattle.language.specs.Words.{Word, bytes, span, name_byte}
+use Rattle.std.specs.List.{list_any}
+use Rattle.std.specs.Cmp.Lexicographic.{pointwise}
+use Rattle.std.specs.Simd.{first_chunks}
 use Rattle.words.specs.Table.{word_of, word_at}
 use Rattle.spelling.proofs.Laws.{same_eq}
 use Rattle.tape.specs.Tape.{MEMORY, one_if}
 use Rattle.readers.specs.Marks.{count, place_at, long_at, value_at, spelled_at, is_p, is_type, is_memory, Marked}
 use Rattle.name_marks.specs.Marking.{WordsHeld, spelled_mark, name_mark, IsSpelled, Remarked, places_on, runs_at}
+
+-- ---- std's `==` on bytes
+
+eqb_back : (a b : ℕ) → eqb a b ≡ eqb b a
+eqb_back a b = go (eqb b a) refl
+  where
+    go : (c : Bool) → eqb b a ≡ c → eqb a b ≡ c
+    go true q = eq-eqb a b (sym (eqb-true b a q))
+    go false q = ne_eqb a b (λ e. eqb-false b a q (sym e))
+
+pub same_std : (s t : List ℕ) → pointwise eqb s t ≡ same s t
+unfolding same
+same_std [] [] = refl
+same_std [] (b ∷ t) = refl
+same_std (a ∷ s) [] = refl
+same_std (a ∷ s) (b ∷ t) = ap (λ (x : Bool). eqb a b && x) (same_std s t)
+
+pub same_back : (s t : List ℕ) → same s t ≡ same t s
+unfolding same
+same_back [] [] = refl
+same_back [] (b ∷ t) = refl
+same_back (a ∷ s) [] = refl
+same_back (a ∷ s) (b ∷ t) = let e = eqb_back a b in let h = same_back s t in cc
 
 -- ---- the mark of a spelling
 
@@ -32,14 +59,10 @@ module _ {s : List ℕ} where
     unfolding spelled_mark
     spelled_other q = record { is = sym (simp (spelled_mark, e, q)); small = omega arith }
 
-module _ (ms : List (List ℕ)) (s : List ℕ) {m : ℕ} (h : m ≡ spelled_mark s) where
-  pub mark_more : among ms s ≡ true → m + 4 ≡ name_mark ms s
-  unfolding name_mark one_if
-  mark_more e = sym (simp (name_mark, e, one_if) (ap (λ (m : ℕ). m + 4) (sym h)))
-
-  pub mark_less : among ms s ≡ false → m ≡ name_mark ms s
-  unfolding name_mark one_if
-  mark_less e = sym (simp (name_mark, e, one_if) (omega arith))
+pub one_byte : (b : Bool) → bool_byte b ≡ one_if b
+unfolding one_if
+one_byte true = refl
+one_byte false = refl
 
 -- ---- the memories on the tape
 
@@ -52,58 +75,30 @@ module _ (op p v : ℕ) (l : List ℕ) where
   unfolding places_on
   places_other e = ap (λ (b : Bool). elim b as (λ (x : Bool). List ℕ) [ true ↦ p ∷ places_on l | false ↦ places_on l ]) (ne_eqb op MEMORY e)
 
--- the items of l from k on
-three : (l : List ℕ) (k : ℕ) → k + 2 < length l → drop k l ≡ get_or l k 0 ∷ get_or l (k + 1) 0 ∷ get_or l (k + 2) 0 ∷ drop (k + 3) l
-three l k h = go (k + 1) (k + 2) (k + 3) refl refl refl
+-- an item is a memory of a name
+abbrev pub is_item : List ℕ → List ℕ → List ℕ → Bool
+is_item text name item = eqb (get_or item 0 0) MEMORY && same (span name_byte (drop (get_or item 1 0) text)) name
+
+-- an item of the tape is three numbers: the items with a memory of a name, and the memories
+pub item_among : (text name : List ℕ) (k : ℕ) (l : List ℕ) → 3 * k ≤ length l → length l < 3 * k + 3 → list_any (is_item text name) (first_chunks 3 k l) ≡ among (runs_at text (places_on l)) name
+unfolding places_on among runs_at
+item_among text name zero [] h g = refl
+item_among text name zero (a ∷ []) h g = refl
+item_among text name zero (a ∷ b ∷ []) h g = refl
+item_among text name zero (a ∷ b ∷ c ∷ l) h g = absurd (omega arith)
+item_among text name (suc k) [] h g = absurd (omega arith)
+item_among text name (suc k) (a ∷ []) h g = absurd (omega arith)
+item_among text name (suc k) (a ∷ b ∷ []) h g = absurd (omega arith)
+item_among text name (suc k) (op ∷ p ∷ v ∷ l) h g = go (eqb op MEMORY) (item_among text name k l (omega arith) (omega arith))
   where
-    go : (x y z : ℕ) → k + 1 ≡ x → k + 2 ≡ y → k + 3 ≡ z → drop k l ≡ get_or l k 0 ∷ get_or l x 0 ∷ get_or l y 0 ∷ drop z l
-    go x y z e f g = drop-cons l k 0 (omega arith) ∙ ap (λ (r : List ℕ). get_or l k 0 ∷ r)
-        (ap (λ (n : ℕ). drop n l) (suc_is k x e) ∙ drop-cons l x 0 (omega arith) ∙ ap (λ (r : List ℕ). get_or l x 0 ∷ r)
-        (ap (λ (n : ℕ). drop n l) (suc_is x y (omega arith)) ∙ drop-cons l y 0 (omega arith) ∙ ap (λ (n : ℕ). get_or l y 0 ∷ drop n l) (suc_is y z (omega arith))))
+    go : (b : Bool) → list_any (is_item text name) (first_chunks 3 k l) ≡ among (runs_at text (places_on l)) name
+        → ((b && same (span name_byte (drop p text)) name) || list_any (is_item text name) (first_chunks 3 k l)) ≡ among (runs_at text (elim b [ true ↦ p ∷ places_on l | false ↦ places_on l ])) name
+    go true q = here (same (span name_byte (drop p text)) name)
       where
-        suc_is : (a b : ℕ) → a + 1 ≡ b → suc a ≡ b
-        suc_is a b q = omega arith
-
-module _ (text t name : List ℕ) (n k : ℕ) where
-  -- what is left of the tape from k on
-  abbrev pub Left : ℕ → Bool
-  Left k = among (runs_at text (places_on (drop k (take n t)))) name
-
-  module _ (h : k + 2 < n) (i : n ≤ length t) where
-    items : drop k (take n t) ≡ get_or t k 0 ∷ get_or t (k + 1) 0 ∷ get_or t (k + 2) 0 ∷ drop (k + 3) (take n t)
-    items = three (take n t) k (let e = length-take n t in omega arith) ∙ parts
-      where
-        parts : get_or (take n t) k 0 ∷ get_or (take n t) (k + 1) 0 ∷ get_or (take n t) (k + 2) 0 ∷ drop (k + 3) (take n t) ≡ get_or t k 0 ∷ get_or t (k + 1) 0 ∷ get_or t (k + 2) 0 ∷ drop (k + 3) (take n t)
-        parts = let a = get_or-take n t k 0 (omega arith) in let b = get_or-take n t (k + 1) 0 (omega arith) in let c = get_or-take n t (k + 2) 0 (omega arith) in cc
-
-    module _ (e : get_or t k 0 ≡ 44) where
-      here : Left k ≡ among (span name_byte (drop (get_or t (k + 1) 0) text) ∷ runs_at text (places_on (drop (k + 3) (take n t)))) name
-      unfolding runs_at
-      here = ap (λ (l : List ℕ). among (runs_at text l) name) (ap places_on items ∙ places_memory _ _ _ _ e)
-
-      pub memory_here : same (span name_byte (drop (get_or t (k + 1) 0) text)) name ≡ true → true ≡ Left k
-      unfolding among
-      memory_here q = sym (here ∙ simp (among, q))
-
-      pub memory_next : same (span name_byte (drop (get_or t (k + 1) 0) text)) name ≡ false → Left k ≡ Left (k + 3)
-      unfolding among
-      memory_next q = here ∙ simp (among, q)
-
-    pub memory_none : (get_or t k 0 ≡ 44 → ⊥) → Left k ≡ Left (k + 3)
-    memory_none e = ap (λ (l : List ℕ). among (runs_at text l) name) (ap places_on items ∙ places_other _ _ _ _ e)
-
-  pub memory_end : n ≤ k + 2 → false ≡ Left k
-  unfolding places_on among runs_at
-  memory_end h = sym (ap (λ (l : List ℕ). among (runs_at text l) name) (few (drop k (take n t)) (let a = length-drop k (take n t) in let b = length-take n t in omega arith)) ∙ nothing)
-    where
-      few : (l : List ℕ) → length l ≤ 2 → places_on l ≡ []
-      few [] h = refl
-      few (a ∷ []) h = refl
-      few (a ∷ b ∷ []) h = refl
-      few (a ∷ b ∷ c ∷ l) h = absurd (omega arith)
-
-      nothing : among (runs_at text []) name ≡ false
-      nothing = refl
+        here : (b : Bool) → (b || list_any (is_item text name) (first_chunks 3 k l)) ≡ elim b [ true ↦ true | false ↦ among (runs_at text (places_on l)) name ]
+        here true = refl
+        here false = q
+    go false q = q
 
 -- ---- a pass over the words
 

@@ -9,7 +9,7 @@ ghost use Rattle.language.specs.Words.{span, name_byte};
 ghost use Rattle.readers.specs.Marks.{count};
 ghost use Rattle.name_marks.specs.Marking.{IsSpelled, name_mark, memories_on, Remarked, Tabled, Taped};
 
-use readers::{COUNT, IS_MEMORY, IS_P, IS_TYPE, Table, Tape, wide};
+use readers::{COUNT, IS_MEMORY, IS_P, IS_TYPE, Table, Tape};
 use signs::kinds;
 use tape::MEMORY;
 
@@ -17,8 +17,7 @@ use tape::MEMORY;
 fn stands(text: &[u8], at: usize, name: &[u8]) -> bool
     ensures { result ≡ same (span name_byte (drop at text.now)) name.now }
 {
-    let n = spans::run(text, at);
-    spelling::same_bytes(spans::part(text, at, n), name)
+    spans::part(text, at, spans::run(text, at)) == name
 }
 
 // Whether a name is among the memories on the first n numbers of the tape.
@@ -26,30 +25,27 @@ fn remembered(text: &[u8], tape: &Tape, n: usize, name: &[u8]) -> bool
     requires { Taped tape.now n }
     ensures { result ≡ among (memories_on text.now tape.now n) name.now }
 {
-    let mut k = 0;
-    while k + 2 < n {
-        if tape[k] == MEMORY {
-            let at = wide(tape[k + 1]);
-            if stands(text, at, name) {
-                return true;
-            }
-        }
-        k += 3;
-    }
-    false
+    let (items, _) = tape[..n].as_chunks::<3>();
+    items
+        .iter()
+        .any(|&[op, at, _]| op == MEMORY && stands(text, at as usize, name))
 }
+
+const P: &[u8] = b"p";
+
+const TYPE: &[u8] = b"type";
 
 // The mark of a name by its spelling.
 fn spelled(name: &[u8]) -> u32
     ensures { IsSpelled name.now result }
 {
-    if spelling::same_bytes(b"p", name) {
-        return IS_P;
+    if name == P {
+        IS_P
+    } else if name == TYPE {
+        IS_TYPE
+    } else {
+        0
     }
-    if spelling::same_bytes(b"type", name) {
-        return IS_TYPE;
-    }
-    0
 }
 
 // The mark of a name, where the memories are on the first n numbers of the tape.
@@ -57,29 +53,20 @@ fn value(text: &[u8], tape: &Tape, n: usize, name: &[u8]) -> u32
     requires { Taped tape.now n }
     ensures { result ≡ name_mark (memories_on text.now tape.now n) name.now }
 {
-    let m = spelled(name);
-    if remembered(text, tape, n, name) {
-        m + IS_MEMORY
-    } else {
-        m
-    }
+    spelled(name) + IS_MEMORY * u32::from(remembered(text, tape, n, name))
 }
 
 // Marks each name of the table.
+#[tactic(auto, unfolding(readers::specs::Marks::count))]
 pub fn mark(text: &[u8], words: &mut Table, tape: &Tape, n: usize)
     requires tabled { Tabled words.old }
     requires taped { Taped tape.now n }
     ensures { Remarked text.now (memories_on text.now tape.now n) (count words.old) words.old words.new }
 {
-    let many = wide(words[COUNT]);
-    let mut i = 0;
-    while i < many {
+    for i in 0..words[COUNT] as usize {
         if words[4 * i] == kinds::NAME {
-            let at = wide(words[4 * i + 1]);
-            let long = wide(words[4 * i + 2]);
-            let v = value(text, tape, n, spans::part(text, at, long));
-            words[4 * i + 3] = v;
+            let (at, long) = (words[4 * i + 1] as usize, words[4 * i + 2] as usize);
+            words[4 * i + 3] = value(text, tape, n, spans::part(text, at, long));
         }
-        i += 1;
     }
 }

@@ -1,6 +1,6 @@
--- `syntax::marks::mark` meets its contract: the words passed are marked, and those that are left are as they were. Assumes nothing.
+-- `name_marks::mark` meets its contract: the words passed are marked, and those that are left are as they were. Assumes nothing.
 use native.Mathlib.Omega.{arith}
-use mathlib.Core.Path.{◌≡◌, sym, ap, subst, ◌∙◌}
+use mathlib.Core.Path.{◌≡◌, refl, ap, sym, subst, ◌∙◌}
 use mathlib.Core.List.{List}
 use Prim.Native.Nat.{ℕ, ◌+◌}
 use Rattle.readers.specs.Marks.{count}
@@ -10,23 +10,17 @@ use Rattle.name_marks.proofs.mark.Goals as goal
 use Rattle.name_marks.proofs.mark.Goals.{then-words-i-eq-NAME, else-words-i-eq-NAME}
 
 pub loop-i-init : goal.loop-i-init
-unfolding count
-loop-i-init c = (omega arith, omega (arith, c.wide-many.ensures, c.requires.tabled.few), remarked_start)
+loop-i-init c = remarked_start
 
 pub loop-i-preserved : goal.loop-i-preserved
-loop-i-preserved c = (
-  omega arith,
-  omega arith,
-  elim c.if-words-i-eq-NAME.branch [
-    | then-words-i-eq-NAME w ↦ subst (λ (l : List ℕ). Remarked c.args.text.now (memories_on c.args.text.now c.args.tape.now c.args.n) (c.loop-i.i + 1) c.args.words.now l) (sym w.words-is)
-        (remarked_word c.loop-i.invariant.2 w.if-words-i-eq-NAME.true (omega (arith, c.loop-i.invariant.2.size, c.requires.tabled.long)) w.wide-at.ensures w.wide-long.ensures
-        (w.value-v.ensures ∙ ap (name_mark (memories_on c.args.text.now c.args.tape.now c.args.n)) w.part.ensures))
-    | else-words-i-eq-NAME w ↦ subst (λ (l : List ℕ). Remarked c.args.text.now (memories_on c.args.text.now c.args.tape.now c.args.n) (c.loop-i.i + 1) c.args.words.now l) (sym w.words-is) (remarked_skip c.loop-i.invariant.2 w.if-words-i-eq-NAME.false)
-  ],
-)
+unfolding count
+loop-i-preserved c = elim c.if-words-i-eq-NAME.branch [
+    | then-words-i-eq-NAME w ↦ rw w.words-is (remarked_word c.loop-i.invariant w.if-words-i-eq-NAME.true (omega (arith, c.loop-i.invariant.size, c.requires.tabled, c.loop-i-test)) refl refl
+        (w.value.ensures ∙ ap (name_mark (memories_on c.args.text.now c.args.tape.now c.args.n)) w.part.ensures))
+    | else-words-i-eq-NAME w ↦ rw w.words-is (remarked_skip c.loop-i.invariant w.if-words-i-eq-NAME.false)
+  ]
 
 pub returns : goal.returns
 unfolding count
-returns c = let e : c.loop-i.i ≡ count c.args.words.now = omega (arith, c.wide-many.ensures) in
-    subst (λ (i : ℕ). Remarked c.args.text.now (memories_on c.args.text.now c.args.tape.now c.args.n) i c.args.words.now
-    c.loop-i.words) e c.loop-i.invariant.2
+returns c = let e : c.loop-i.i ≡ count c.args.words.now = omega arith in
+    subst (λ (i : ℕ). Remarked c.args.text.now (memories_on c.args.text.now c.args.tape.now c.args.n) i c.args.words.now c.loop-i.words) e c.loop-i.invariant

@@ -1,10 +1,6 @@
--- `syntax::marks::mark` meets its contract: the words passed are marked, and those that are left are as they were. Assumes nothing.
-use Prim.Native.Nat.{◌≤◌, ◌-◌}
+-- `name_marks::mark` meets its contract: the words passed are marked, and those that are left are as they were. Assumes nothing.
 use Rattle.name_marks.specs.Marking.{Remarked, memories_on}
 use Rattle.name_marks.proofs.mark.Given as goal
 
 abbrev pub invariant-loop-i : goal.invariant-loop-i
-invariant-loop-i l = (l.i ≤ l.many) × (l.many ≤ 8192) × Remarked l.text (memories_on l.text l.tape l.n) l.i l.initial.words l.words
-
-abbrev pub decreases-loop-i : goal.decreases-loop-i
-decreases-loop-i l = l.many - l.i
+invariant-loop-i l = Remarked l.text (memories_on l.text l.tape l.n) l.i l.initial.words l.words
