@@ -1,7 +1,7 @@
 // The width that an item leaves, if it leaves one: the tests of soundness, a family at a time.
 // What comes in: an item, the plan, the widths that wait and those of the slots.
 // What goes out: the width that waits next, or that the item is not sound.
-#![tactic(auto)]
+#![tactic(auto, unfolding(plan::specs::Sound::input_ok, plan::specs::Sound::output_ok, plan::specs::Sound::memory_ok, plan::specs::Sound::slot_width, plan::specs::Sound::keepable))]
 
 ghost use Rattle.std.specs.Prelude.{◌≡◌, ◌&&◌, [], ◌+◌, ◌*◌, ◌^◌, ◌≤◌, ◌<◌, max, eqb, leb, ltb, length, get_or};
 ghost use Rattle.language.specs.Limits.{limits};
@@ -19,37 +19,17 @@ use plan::{
 };
 use value::{binary_width, unary_width};
 
-// The width that an item leaves; none where it is not sound, or leaves no value.
-#[derive(Clone, Copy)]
-pub enum Width {
-    None,
-    Of(u32),
-}
-
-// A width where a test holds.
-fn width_if(holds: bool, w: u32) -> Width
-    ensures { result ≡ width_if holds w }
-{
-    if holds { Width::Of(w) } else { Width::None }
-}
-
-fn wider(x: u32, y: u32) -> u32
-    ensures { result ≡ max x y }
-{
-    if x < y { y } else { x }
-}
-
-fn const_width(w: u32, lo: u32, hi: u32) -> Width
+fn const_width(w: u32, lo: u32, hi: u32) -> Option<u32>
     ensures { result ≡ width_if (leb w limits.expressionWidth && ltb (lo + hi * 2 ^ 32) (2 ^ w)) w }
 {
-    width_if((w <= Expression::WIDTH) & within(constant(lo, hi), w), w)
+    (w <= Expression::WIDTH && within(constant(lo, hi), w)).then_some(w)
 }
 
 // An input that the rule requires present.
 fn input_ok(plan: &[u32], present: u32, i: u32) -> bool
     ensures { result ≡ input_ok (rules_of plan.now present 0) i }
 {
-    (i < port_count(plan)) & (port_at(plan, i) <= Plan::WIDTH) & (bit(present, i) == 1)
+    i < port_count(plan) && port_at(plan, i) <= Plan::WIDTH && bit(present, i) == 1
 }
 
 // An output that the rule requires present and that is not assigned yet, wide enough.
@@ -57,48 +37,41 @@ pub fn output_ok(plan: &[u32], present: u32, taken: u32, assigned: u32, k: u32, 
     ensures { result ≡ output_ok (rules_of plan.now present taken) assigned k w }
 {
     let p = port_at(plan, k);
-    if p < OUTPUT {
-        return false;
-    }
-    (k < port_count(plan))
-        & (bit(present, k) == 1)
-        & (bit(assigned, k) == 0)
-        & (bit(taken, k) == 0)
-        & (w <= p - OUTPUT)
+    k < port_count(plan)
+        && p >= OUTPUT
+        && bit(present, k) == 1
+        && bit(assigned, k) == 0
+        && bit(taken, k) == 0
+        && w <= p - OUTPUT
 }
 
 // A memory, by its number, its first cell and its size. Only a memory's number is counted up to.
 pub fn memory_ok(plan: &[u32], m: u32, f: u32, n: u32) -> bool
     ensures { result ≡ memory_ok (rules_of plan.now 0 0) m f n }
 {
-    if m < memory_count(plan) {
-        (place(f) == cells_before(plan, m)) & (n == memory_size(plan, m))
-    } else {
-        false
-    }
+    m < memory_count(plan) && place(f) == cells_before(plan, m) && n == memory_size(plan, m)
 }
 
 // The width of a slot, or that it was not kept.
 fn slot_width(ls: &[u32], k: u32) -> u32
     ensures { result ≡ slot_width (rules_of [] 0 0) ls.now k }
 {
-    let q = place(k);
-    if q < ls.len() { ls[q] } else { UNSET }
+    ls.get(place(k)).copied().unwrap_or(UNSET)
 }
 
 // The width of a `val`'s slot, where it was kept.
-fn let_width(ls: &[u32], k: u32) -> Width
+fn let_width(ls: &[u32], k: u32) -> Option<u32>
     ensures { result ≡ kept_width (rules_of [] 0 0) ls.now k }
 {
     let w = slot_width(ls, k);
-    width_if((k < Plan::VALS) & (w <= Expression::WIDTH), w)
+    (k < Plan::VALS && w <= Expression::WIDTH).then_some(w)
 }
 
 // A slot that a `case` selects by, and that was kept.
 fn arm_ok(ls: &[u32], k: u32) -> bool
     ensures { result ≡ (leb limits.vals k && leb (slot_width (rules_of [] 0 0) ls.now k) limits.expressionWidth) }
 {
-    (k >= Plan::VALS) & (slot_width(ls, k) <= Expression::WIDTH)
+    k >= Plan::VALS && slot_width(ls, k) <= Expression::WIDTH
 }
 
 // A slot that may be kept: that of a `val` once.
@@ -112,56 +85,36 @@ pub fn keepable(ls: &[u32], k: u32) -> bool
     }
 }
 
-fn range_width(i: u32, j: u32, y: u32) -> Width
+fn range_width(i: u32, j: u32, y: u32) -> Option<u32>
     requires { y ≤ limits.expressionWidth }
     ensures { result ≡ width_if (ltb i y && ltb j y) (range_width i j) }
 {
-    if i >= y {
-        return Width::None;
-    }
-    if j < y {
-        Width::Of(ranges::range_width(i, j))
-    } else {
-        Width::None
-    }
+    (i < y && j < y).then(|| ranges::range_width(i, j))
 }
 
-fn copies_width(n: u32, w: u32, y: u32) -> Width
+fn copies_width(n: u32, w: u32, y: u32) -> Option<u32>
     requires { y ≤ limits.expressionWidth }
     ensures { result ≡ width_if (eqb y w && leb n limits.copies) (n * w) }
 {
-    if y != w {
-        return Width::None;
-    }
-    if n <= Expression::COPIES {
-        Width::Of(n * w)
-    } else {
-        Width::None
-    }
+    (y == w && n <= Expression::COPIES).then(|| n * w)
 }
 
-fn between_width(o: Binary, m: u32, n: u32, x: u32, y: u32) -> Width
+fn between_width(o: Binary, m: u32, n: u32, x: u32, y: u32) -> Option<u32>
     requires { (x ≤ limits.expressionWidth) × (y ≤ limits.expressionWidth) }
     ensures { result ≡ width_if (eqb x m && eqb y n) (binary_width o m n) }
 {
-    if x != m {
-        return Width::None;
-    }
-    if y == n {
-        Width::Of(binary_width(o, m, n))
-    } else {
-        Width::None
-    }
+    (x == m && y == n).then(|| binary_width(o, m, n))
 }
 
-fn beside_width(w: u32, x: u32, y: u32) -> Width
+fn beside_width(w: u32, x: u32, y: u32) -> Option<u32>
     requires { (x ≤ limits.expressionWidth) × (y ≤ limits.expressionWidth) }
     ensures { result ≡ width_if (eqb y w) (x + y) }
 {
-    width_if(y == w, x + y)
+    (y == w).then_some(x + y)
 }
 
 // The k-th waiting width from the latest on, 0 where fewer wait.
+#[tactic(auto, using(plan::proofs::Waits::top_at, plan::proofs::Waits::top_past))]
 pub fn waiting(ws: &[u32], n: usize, k: usize) -> u32
     requires { (n ≤ sound_waiting) × (length ws.now ≡ sound_waiting) × Wide ws.now n }
     ensures { (result ≡ get_or (top ws.now n) k 0) × (result ≤ limits.expressionWidth) }
@@ -174,29 +127,33 @@ fn widest(ws: &[u32], n: usize) -> u32
     requires { (n ≤ sound_waiting) × (length ws.now ≡ sound_waiting) × Wide ws.now n }
     ensures { result ≡ max (get_or (top ws.now n) 1 0) (get_or (top ws.now n) 0 0) }
 {
-    wider(waiting(ws, n, 1), waiting(ws, n, 0))
+    waiting(ws, n, 1).max(waiting(ws, n, 0))
 }
 
 // The width that an item leaves over the widths that wait. Each arm reads for itself, so that one jump leads to all it does.
-pub fn width_of(i: Item, plan: &[u32], present: u32, ls: &[u32], ws: &[u32], n: usize) -> Width
+pub fn width_of(
+    i: Item,
+    plan: &[u32],
+    present: u32,
+    ls: &[u32],
+    ws: &[u32],
+    n: usize,
+) -> Option<u32>
     requires { (n ≤ sound_waiting) × (length ws.now ≡ sound_waiting) × Wide ws.now n }
     ensures { result ≡ width_of (rules_of plan.now present 0) ls.now (get_or (top ws.now n) 1 0) (get_or (top ws.now n) 0 0) i }
 {
     match i {
         Item::Const(w, lo, hi) => const_width(w, lo, hi),
-        Item::Port(k) => width_if(input_ok(plan, present, k), port_at(plan, k)),
+        Item::Port(k) => input_ok(plan, present, k).then_some(port_at(plan, k)),
         Item::Let(k) => let_width(ls, k),
-        Item::Cell(m, f, k) => width_if(memory_ok(plan, m, f, k), memory_width(plan, m)),
+        Item::Cell(m, f, k) => memory_ok(plan, m, f, k).then_some(memory_width(plan, m)),
         Item::Range(a, b) => range_width(a, b, waiting(ws, n, 0)),
         Item::Copies(k, w) => copies_width(k, w, waiting(ws, n, 0)),
         Item::Beside(w) => beside_width(w, waiting(ws, n, 1), waiting(ws, n, 0)),
-        Item::Before(u, w) => width_if(waiting(ws, n, 0) == w, unary_width(u, w)),
+        Item::Before(u, w) => (waiting(ws, n, 0) == w).then_some(unary_width(u, w)),
         Item::Between(o, a, b) => between_width(o, a, b, waiting(ws, n, 1), waiting(ws, n, 0)),
-        Item::Choice => Width::Of(widest(ws, n)),
-        Item::Arm(_, k) => width_if(arm_ok(ls, k), widest(ws, n)),
-        Item::Keep(_, _) => Width::None,
-        Item::Assign(_) => Width::None,
-        Item::Write(_, _, _) => Width::None,
-        Item::Bad => Width::None,
+        Item::Choice => Some(widest(ws, n)),
+        Item::Arm(_, k) => arm_ok(ls, k).then_some(widest(ws, n)),
+        Item::Keep(..) | Item::Assign(_) | Item::Write(..) | Item::Bad => None,
     }
 }
