@@ -60,24 +60,24 @@ no_code n l ks (t ∷ ts, w, e) = absurd w
 -- ---- what a node leaves, from what its call of `push` tells
 
 abbrev pub Pushed : List ℕ → List ℕ → ℕ → ℕ → ℕ → Type 0
-Pushed l x k m r = (r ≡ k + 1) × (k < 64) × (m < 99) × (x ≡ set l k m)
+Pushed l x k m r = (r ≡ k + 1) × (k < 64) × (x ≡ set l k m)
 
 module _ (n : ℕ) (l x : List ℕ) (r : ℕ) (long : length l ≡ 64) where
   pushed : (k m : ℕ) (js : List ℕ) (t : Term) (c : List ℕ) → Pushed l x k m r → Held n l k js → Judged n t m c → Held n x r (js ++ c)
-  pushed k m js t c p h j = rw (p.3, p.0) (put_on n l k js t m c (omega arith) h j)
+  pushed k m js t c p h j = rw (p.2, p.0) (put_on n l k js t m c (omega arith) h j)
 
-  pub leaf_held : (k m node : ℕ) (ks : List ℕ) → Pushed l x k m r → Held n l k ks → (m < 99 → (t : Term) × Judged n t m (node ∷ [])) → Held n x r (ks ++ (node ∷ []))
-  leaf_held k m node ks p h f = let j = f p.2 in pushed k m ks j.0 (node ∷ []) p h j.1
+  pub leaf_held : (k m node : ℕ) (ks : List ℕ) → Pushed l x k m r → Held n l k ks → ((t : Term) × Judged n t m (node ∷ [])) → Held n x r (ks ++ (node ∷ []))
+  leaf_held k m node ks p h j = pushed k m ks j.0 (node ∷ []) p h j.1
 
   pub unary_held : (k m op : ℕ) (ks : List ℕ) → 0 < k → Pushed l x (k - 1) m r → Held n l k ks
-      → (m < 99 → (i : ℕ) (t : Term) (js : List ℕ) → Judged i t (get_or l (k - 1) 0) js → (s : Term) × Judged i s m (js ++ (op ∷ []))) → Held n x r (ks ++ (op ∷ []))
+      → ((i : ℕ) (t : Term) (js : List ℕ) → Judged i t (get_or l (k - 1) 0) js → (s : Term) × Judged i s m (js ++ (op ∷ []))) → Held n x r (ks ++ (op ∷ []))
   unary_held k m op ks z p h f =
       let a = last n l k ks z h in
-      let j = f p.2 n a.type (code a.type) a.judged in
+      let j = f n a.type (code a.type) a.judged in
       rw (a.is, append_assoc a.before (code a.type) (op ∷ [])) (pushed (k - 1) m a.before j.0 (code a.type ++ (op ∷ [])) p a.held j.1)
 
   pub binary_held : (k m op : ℕ) (ks : List ℕ) → 1 < k → Pushed l x (k - 2) m r → Held n l k ks
-      → (m < 99 → (i : ℕ) (s t : Term) (is js : List ℕ) → Judged i s (get_or l (k - 2) 0) is → Judged i t (get_or l (k - 1) 0) js → (u : Term) × Judged i u m (is ++ (js ++ (op ∷ []))))
+      → ((i : ℕ) (s t : Term) (is js : List ℕ) → Judged i s (get_or l (k - 2) 0) is → Judged i t (get_or l (k - 1) 0) js → (u : Term) × Judged i u m (is ++ (js ++ (op ∷ []))))
       → Held n x r (ks ++ (op ∷ []))
   binary_held k m op ks z p h f =
       let a = last n l k ks (omega arith) h in
@@ -85,7 +85,7 @@ module _ (n : ℕ) (l x : List ℕ) (r : ℕ) (long : length l ≡ 64) where
       let e : k - 1 - 1 ≡ k - 2 = omega arith in
       let v : Judged n b.type (get_or l (k - 2) 0) (code b.type) = subst (λ (i : ℕ). Judged n b.type (get_or l i 0) (code b.type)) e b.judged in
       let w : Held n l (k - 2) b.before = subst (λ (i : ℕ). Held n l i b.before) e b.held in
-      let j = f p.2 n b.type a.type (code b.type) (code a.type) v a.judged in
+      let j = f n b.type a.type (code b.type) (code a.type) v a.judged in
       let g : ks ++ (op ∷ []) ≡ b.before ++ (code b.type ++ (code a.type ++ (op ∷ []))) =
       ap (λ (q : List ℕ). q ++ (op ∷ [])) (a.is ∙ ap (λ (q : List ℕ). q ++ code a.type) b.is) ∙ append_assoc (b.before ++ code b.type) (code a.type) (op ∷ [])
       ∙ append_assoc b.before (code b.type) (code a.type ++ (op ∷ [])) in

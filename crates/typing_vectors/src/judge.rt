@@ -1,120 +1,86 @@
 // Judges a code before it is evaluated: a code that is not one type that keeps the rules is told apart.
-ghost use Rattle.std.specs.Prelude.{◌≡◌, true, List, [], ◌∷◌, ◌++◌, ℕ, ◌+◌, ◌≤◌, ◌<◌, length, get_or, set};
+ghost use Rattle.std.specs.Prelude.{◌≡◌, true, List, [], ◌∷◌, ◌++◌, ℕ, ◌+◌, ◌≤◌, ◌<◌, IfSome, length, get_or, set};
 ghost use Rattle.type_value.specs.Terms.{Term, TypeOf};
 ghost use Rattle.type_value.specs.Walk.{TermStands};
 ghost use Rattle.typing.specs.Solved.{Coded};
 ghost use Rattle.typing_vectors.specs.Judged.{Judged, Held};
 
-// What a mark or a count is where a rule is broken.
-const BROKEN: u32 = 99;
-
-fn leaf(node: u32, unknowns: usize) -> u32
-    ensures { result < 99 → (t : Term) × Judged unknowns t result (node ∷ []) }
+// The mark of a node with no operand, where it keeps the rules.
+fn leaf(node: u32, unknowns: usize) -> Option<u32>
+    ensures { IfSome result (λ m. (t : Term) × Judged unknowns t m (node ∷ [])) }
 {
     let argument = node / 8;
     match node % 8 {
-        0 => {
-            if 65535 < argument {
-                return BROKEN;
-            }
-            0
-        }
-        1 => {
-            if unknowns <= argument as usize {
-                return BROKEN;
-            }
-            1
-        }
-        _ => BROKEN,
+        0 if argument <= 65535 => Some(0),
+        1 if (argument as usize) < unknowns => Some(1),
+        _ => None,
     }
 }
 
 // A log's argument holds no log; a floor's or a ceil's two, of which none is left.
-fn unary(op: u32, m: u32) -> u32
+fn unary(op: u32, m: u32) -> Option<u32>
     requires { (2 ≤ op) × (op < 5) }
-    ensures { result < 99 → (n : ℕ) (t : Term) (ks : List ℕ) → Judged n t m ks → (s : Term) × Judged n s result (ks ++ (op ∷ [])) }
+    ensures { IfSome result (λ j. (n : ℕ) (t : Term) (ks : List ℕ) → Judged n t m ks → (s : Term) × Judged n s j (ks ++ (op ∷ []))) }
 {
     match op {
-        2 => {
-            if 1 < m {
-                return BROKEN;
-            }
-            m + 2
-        }
-        _ => {
-            if 5 < m {
-                return BROKEN;
-            }
-            m % 2
-        }
+        2 if m <= 1 => Some(m + 2),
+        2 => None,
+        _ if m <= 5 => Some(m % 2),
+        _ => None,
     }
 }
 
 // The logs of both stand together; no port stands in the right operand of a minus.
-fn binary(op: u32, m: u32, k: u32) -> u32
+fn binary(op: u32, m: u32, k: u32) -> Option<u32>
     requires { (5 ≤ op) × (op < 8) }
-    ensures { result < 99 → (n : ℕ) (s t : Term) (js ks : List ℕ) → Judged n s m js → Judged n t k ks → (u : Term) × Judged n u result (js ++ (ks ++ (op ∷ []))) }
+    ensures { IfSome result (λ both. (n : ℕ) (s t : Term) (js ks : List ℕ) → Judged n s m js → Judged n t k ks → (u : Term) × Judged n u both (js ++ (ks ++ (op ∷ [])))) }
 {
-    if 5 < m {
-        return BROKEN;
+    if 5 < m || 5 < k {
+        return None;
     }
-    if 5 < k {
-        return BROKEN;
-    }
-    let both = (m % 2 + k % 2) / 2;
     match op {
-        6 => {
-            if k % 2 == 1 {
-                return BROKEN;
-            }
-            m + k
-        }
-        _ => m + k - both,
+        6 if k % 2 == 1 => None,
+        6 => Some(m + k),
+        _ => Some(m + k - (m % 2 + k % 2) / 2),
     }
 }
 
-fn push(marks: &mut [u32; 64], k: usize, m: u32) -> usize
+fn push(marks: &mut [u32; 64], k: usize, m: u32) -> Option<usize>
     requires { k ≤ 64 }
-    ensures value { result < 99 → (result ≡ k + 1) × (k < 64) × (m < 99) × (marks.new ≡ set marks.old k m) }
+    ensures value { IfSome result (λ n. (n ≡ k + 1) × (k < 64) × (marks.new ≡ set marks.old k m)) }
     ensures marks_len { length marks.old ≡ 64 → length marks.new ≡ 64 }
 {
-    if BROKEN <= m {
-        return 99;
-    }
     if k == 64 {
-        return 99;
+        return None;
     }
     marks[k] = m;
-    k + 1
+    Some(k + 1)
 }
 
-// One node more: how many types wait then, or 99.
-fn step(node: u32, unknowns: usize, marks: &mut [u32; 64], n: usize) -> usize
+// One node more: how many types wait then, where the node keeps the rules.
+fn step(node: u32, unknowns: usize, marks: &mut [u32; 64], n: usize) -> Option<usize>
     requires { (n ≤ 64) × (length marks.old ≡ 64) }
-    ensures held { result < 99 → (ks : List ℕ) → Held unknowns marks.old n ks → Held unknowns marks.new result (ks ++ (node ∷ [])) }
+    ensures held { IfSome result (λ r. (r ≤ 64) × ((ks : List ℕ) → Held unknowns marks.old n ks → Held unknowns marks.new r (ks ++ (node ∷ [])))) }
     ensures marks_len { length marks.new ≡ 64 }
 {
     match node {
         2 | 3 | 4 => {
             if n == 0 {
-                return 99;
+                return None;
             }
-            let m = marks[n - 1];
-            let j = unary(node, m);
-            push(marks, n - 1, j)
+            let mark = unary(node, marks[n - 1])?;
+            push(marks, n - 1, mark)
         }
         5 | 6 | 7 => {
             if n < 2 {
-                return 99;
+                return None;
             }
-            let m = marks[n - 2];
-            let k = marks[n - 1];
-            let j = binary(node, m, k);
-            push(marks, n - 2, j)
+            let mark = binary(node, marks[n - 2], marks[n - 1])?;
+            push(marks, n - 2, mark)
         }
         _ => {
-            let j = leaf(node, unknowns);
-            push(marks, n, j)
+            let mark = leaf(node, unknowns)?;
+            push(marks, n, mark)
         }
     }
 }
@@ -123,31 +89,18 @@ fn step(node: u32, unknowns: usize, marks: &mut [u32; 64], n: usize) -> usize
 pub fn sound(code: &[u32], from: usize, end: usize, unknowns: usize) -> bool
     ensures { result ≡ true → (t : Term) × TermStands t code.now from end × TypeOf unknowns t }
 {
-    if code.len() < end {
-        return false;
-    }
-    if end < from {
-        return false;
-    }
-    if 64 < end - from {
+    if code.len() < end || end < from || 64 < end - from {
         return false;
     }
     let mut marks = [0u32; 64];
     let mut n = 0;
-    let mut i = from;
-    while i < end {
-        n = step(code[i], unknowns, &mut marks, n);
-        if 64 < n {
-            return false;
-        }
-        i += 1;
-    }
-    if n == 1 {
-        if marks[0] < 6 {
-            return true;
+    for i in from..end {
+        match step(code[i], unknowns, &mut marks, n) {
+            Some(r) => n = r,
+            None => return false,
         }
     }
-    false
+    n == 1 && marks[0] < 6
 }
 
 // Every unknown has a type that keeps the rules.
@@ -155,11 +108,8 @@ pub fn all_sound(code: &[u32], starts: &[usize], ends: &[usize]) -> bool
     requires { length starts.now ≡ length ends.now }
     ensures { result ≡ true → (ts : List Term) × Coded ts code.now starts.now ends.now }
 {
-    let mut i = 0;
-    while i < starts.len() {
-        if sound(code, starts[i], ends[i], starts.len()) {
-            i += 1;
-        } else {
+    for i in 0..starts.len() {
+        if !sound(code, starts[i], ends[i], starts.len()) {
             return false;
         }
     }
@@ -169,12 +119,5 @@ pub fn all_sound(code: &[u32], starts: &[usize], ends: &[usize]) -> bool
 pub fn small(ws: &[u32]) -> bool
     ensures { result ≡ true → (i : ℕ) → get_or ws.now i 0 ≤ 65535 }
 {
-    let mut i = 0;
-    while i < ws.len() {
-        if 65535 < ws[i] {
-            return false;
-        }
-        i += 1;
-    }
-    true
+    ws.iter().all(|w| *w <= 65535)
 }

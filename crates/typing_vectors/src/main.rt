@@ -5,95 +5,61 @@
 
 mod judge;
 
-ghost use Rattle.std.specs.Prelude.{◌≡◌, ◌≤◌, ◌<◌, length};
+ghost use Rattle.std.specs.Prelude.{◌≡◌, ◌+◌, ◌^◌, ◌≤◌, ◌<◌, length};
 
-use exact::Position;
-
-fn digit(b: u8) -> u32
-    ensures { result ≤ 9 }
-{
-    if 47 < b {
-        if b < 58 {
-            return (b - 48) as u32;
-        }
+// A byte that is no digit counts as 0.
+fn digit(b: u8) -> u32 {
+    if b.is_ascii_digit() {
+        u32::from(b - b'0')
+    } else {
+        0
     }
-    0
 }
 
 // Field k of the text; 0 where there is none.
-fn field(s: &[u8], k: usize) -> u32
-    ensures { result ≤ 999999 }
-{
-    if 20000 < k {
+fn field(s: &[u8], k: usize) -> u32 {
+    if 20000 < k || s.len() < k * 7 + 6 {
         return 0;
     }
-    let at = k * 7;
-    if s.len() < at + 6 {
-        return 0;
-    }
-    let high = digit(s[at]) * 100 + digit(s[at + 1]) * 10 + digit(s[at + 2]);
-    let low = digit(s[at + 3]) * 100 + digit(s[at + 4]) * 10 + digit(s[at + 5]);
-    high * 1000 + low
+    s[k * 7..k * 7 + 6].iter().fold(0u32, |n, b| n.saturating_mul(10).saturating_add(digit(*b)))
 }
 
-fn numbers(s: &[u8], k: usize, to: &mut [u32])
-    requires { k < 20000 }
+// The fields from field k on, each as `stored` makes it.
+fn numbers<T: Copy, F: Fn(u32) -> T>(s: &[u8], k: usize, to: &mut [T], stored: F)
+    requires places { k + length to.old < 2 ^ 64 }
+    requires any { F.IsAlwaysCallable stored }
 {
-    let mut i = 0;
-    while i < to.len() {
-        to[i] = field(s, k + i);
-        i += 1;
+    for (i, x) in to.iter_mut().enumerate() {
+        *x = stored(field(s, k + i));
     }
 }
 
-fn places(s: &[u8], k: usize, to: &mut [usize])
-    requires { k < 20000 }
-{
-    let mut i = 0;
-    while i < to.len() {
-        to[i] = field(s, k + i) as usize;
-        i += 1;
-    }
-}
-
-fn print_position(p: Position) {
+fn print_position(p: Option<u64>) {
     match p {
-        Position::At(i) => {
+        Some(i) => {
             io::print_decimal(1, i);
         }
-        Position::Outside => {
+        None => {
             io::write_all(1, b"outside");
         }
     }
 }
 
 fn print_type(code: &[u32], long: usize, ws: &[u32]) {
-    if judge::sound(code, 0, long, ws.len()) {
-        if judge::small(ws) {
-            io::print_decimal(1, type_value::width_at(code, 0, long, ws));
-            io::write_all(1, b" ");
-            print_position(type_value::position_at(code, 0, long, ws));
-        }
+    if judge::sound(code, 0, long, ws.len()) && judge::small(ws) {
+        io::print_decimal(1, type_value::width_at(code, 0, long, ws));
+        io::write_all(1, b" ");
+        print_position(type_value::position_at(code, 0, long, ws));
     }
     io::write_all(1, b"\n");
 }
 
 fn print_widths(ws: &[u32]) {
-    let mut i = 0;
-    while i < ws.len() {
+    for w in ws {
         io::write_all(1, b" ");
-        io::print_decimal(1, ws[i] as u64);
-        i += 1;
+        io::print_decimal(1, u64::from(*w));
     }
     io::write_all(1, b"\n");
-}
-
-fn print_flag(found: bool) {
-    if found {
-        io::write_all(1, b"1");
-    } else {
-        io::write_all(1, b"0");
-    }
 }
 
 // A system whose codes break a rule prints nothing.
@@ -101,7 +67,7 @@ fn print_system(code: &[u32], starts: &[usize], ends: &[usize], ws: &mut [u32])
     requires { (length starts.now ≡ length ends.now) × (length ws.old ≡ length starts.now) }
 {
     if judge::all_sound(code, starts, ends) {
-        print_flag(typing::solve(code, starts, ends, ws));
+        io::print_decimal(1, u64::from(typing::solve(code, starts, ends, ws)));
         print_widths(ws);
     }
 }
@@ -110,8 +76,8 @@ fn print_system(code: &[u32], starts: &[usize], ends: &[usize], ws: &mut [u32])
 fn type_row(s: &[u8], k: usize, n: usize, long: usize, code: &mut [u32], ws: &mut [u32])
     requires { (k < 10000) × (n ≤ 24) × (n ≤ length ws.old) }
 {
-    numbers(s, k + 3, &mut ws[..n]);
-    numbers(s, k + 3 + n, code);
+    numbers(s, k + 3, &mut ws[..n], |w| w);
+    numbers(s, k + 3 + n, code, |node| node);
     print_type(code, long, &ws[..n]);
 }
 
@@ -127,14 +93,14 @@ fn system_row(
     requires k_bound { (k < 10000) × (n ≤ 24) }
     requires n_in_bounds { (n ≤ length starts.old) × (n ≤ length ends.old) × (n ≤ length ws.old) }
 {
-    places(s, k + 3, starts);
-    places(s, k + 3 + n, ends);
-    numbers(s, k + 3 + n + n, code);
+    numbers(s, k + 3, starts, |place| place as usize);
+    numbers(s, k + 3 + n, ends, |place| place as usize);
+    numbers(s, k + 3 + n + n, code, |node| node);
     print_system(code, &starts[..n], &ends[..n], &mut ws[..n]);
 }
 
-// The row at field k: where the next one starts, or 10000 after the last.
-fn row(s: &[u8], k: usize) -> usize
+// The row at field k: where the next one starts, or None after the last.
+fn row(s: &[u8], k: usize) -> Option<usize>
     requires { k < 10000 }
 {
     let mut code = [0u32; 128];
@@ -145,18 +111,18 @@ fn row(s: &[u8], k: usize) -> usize
     let n = field(s, k + 1) as usize;
     let long = field(s, k + 2) as usize;
     if 24 < n {
-        return 10000;
+        return None;
     }
     match kind {
         0 => {
             type_row(s, k, n, long, &mut code, &mut ws);
-            k + 3 + n + long
+            Some(k + 3 + n + long)
         }
         1 => {
             system_row(s, k, n, &mut code, &mut starts, &mut ends, &mut ws);
-            k + 3 + n + n + long
+            Some(k + 3 + n + n + long)
         }
-        _ => 10000,
+        _ => None,
     }
 }
 
@@ -165,12 +131,10 @@ fn main() {
     let got = io::read_full(0, &mut bytes);
     let s = &bytes[..got];
     let mut k = 0;
-    let mut turns: u32 = 0;
-    while turns < 1000 {
-        if 9999 < k {
-            return;
+    for _ in 0..1000 {
+        match row(s, k) {
+            Some(next) if next < 10000 => k = next,
+            _ => return,
         }
-        k = row(s, k);
-        turns += 1;
     }
 }

@@ -13,12 +13,12 @@ front d e n l h = length-take-le n e (subst (λ (k : ℕ). n ≤ k) (sym l) h)
 pub slice_bounds-print_system-end-2 : goal.slice_bounds-print_system-end-2
 slice_bounds-print_system-end-2 c =
     let s = c in
-    sym (front s.args.starts.now c.places.new.to s.args.n c.places.auto.to s.requires.n_in_bounds.0)
+    sym (front s.args.starts.now c.numbers.new.to s.args.n c.numbers.auto.to s.requires.n_in_bounds.0)
 
 pub slice_bounds-print_system-end-4 : goal.slice_bounds-print_system-end-4
 slice_bounds-print_system-end-4 c =
     let s = c in
-    sym (front s.args.ends.now c.places-2.new.to s.args.n c.places-2.auto.to s.requires.n_in_bounds.1)
+    sym (front s.args.ends.now c.numbers-2.new.to s.args.n c.numbers-2.auto.to s.requires.n_in_bounds.1)
 
 pub slice_bounds-print_system-end-6 : goal.slice_bounds-print_system-end-6
 slice_bounds-print_system-end-6 c =
@@ -31,7 +31,7 @@ print_system-requires c =
     let code = s.args.code.now in
     let starts = s.args.starts.now in
     let ends = s.args.ends.now in
-    let a = front starts c.places.new.to s.args.n c.places.auto.to s.requires.n_in_bounds.0 in
-    let b = front s.args.ends.now c.places-2.new.to s.args.n c.places-2.auto.to s.requires.n_in_bounds.1 in
+    let a = front starts c.numbers.new.to s.args.n c.numbers.auto.to s.requires.n_in_bounds.0 in
+    let b = front s.args.ends.now c.numbers-2.new.to s.args.n c.numbers-2.auto.to s.requires.n_in_bounds.1 in
     let d = length-take-le s.args.n s.args.ws.now s.requires.n_in_bounds.2 in
     (a ∙ sym b, d ∙ sym a)
