@@ -5,7 +5,7 @@ use mathlib.Core.List.{List, [], ◌∷◌, ◌++◌}
 use mathlib.Core.Bool.{Bool, true, false, ◌||◌, false≢true}
 use native.Mathlib.Omega.{arith}
 use lib.Dec.{eqb}
-use lib.ListN.{length, get_or, set, length-set, replicate, get_or-replicate}
+use lib.ListN.{length, get_or, set, length-set, replicate, length-replicate, get_or-replicate, get_or-append}
 use lib.Seq.{set_comm, take-set-lt, take_at, get_or-set_same, get_or-set_other}
 use borrow.Author.Tests.{lt-ltb, le-ltb, eq-eqb, ne_eqb, eqb-true, eqb-false}
 use Rattle.language.specs.Meaning.{Change, touched, twice, written}
@@ -76,11 +76,12 @@ module _ (memory next : List ℕ) (changed : List Bool) (clash : Bool) (qs : Lis
       go a l false q = ap (λ (x : Bool). x || touched a qs) q ∙ b.changes a l ∙ sym (get_or-set_other changed t a true false (eqb-false a t q))
 
 -- before the first write
-pub prepared : (memory rest : List ℕ) (changed : List Bool) (n : ℕ) → changed ≡ replicate n false → length memory ≤ n → Buffered memory (memory ++ rest) changed false []
+pub prepared : (memory rest : List ℕ) (changed others : List Bool) → changed ≡ replicate (length memory) false → Buffered memory (memory ++ rest) (changed ++ others) false []
 unfolding touched twice written
-prepared memory rest changed n e h =
+prepared memory rest changed others e =
     record {
-      changes = λ a l. rw e (sym (get_or-replicate n a false false (omega arith)));
+      changes = λ a l. let n : length (replicate (length memory) false) ≡ length memory = length-replicate (length memory) false in
+          rw (e, get_or-append (replicate (length memory) false) others false a (omega arith)) (sym (get_or-replicate (length memory) a false false l));
       clashes = refl;
       holds = λ z. take_at memory rest (length memory) refl;
     }

@@ -42,8 +42,9 @@ impl Tables {
         requires { length memory.now ≤ limits.cells }
         ensures { Writes memory.now self.new [] }
     {
-        self.next[..memory.len()].copy_from_slice(memory);
-        self.changed.fill(false);
+        let cells = memory.len();
+        self.next[..cells].copy_from_slice(memory);
+        self.changed[..cells].fill(false);
         self.clash = false;
     }
 
