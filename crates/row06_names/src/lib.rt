@@ -65,10 +65,12 @@ fn walk(text: &[u8], tape: &[u32], many: usize) -> Option<u32>
         if at_fault(text, tape, many, rule, lets, i) {
             first = words::earlier(tape[3 * i + 1], first);
         }
-        if tape[3 * i] == RULED {
+        let rule_ends = tape[3 * i] == RULED;
+        let lets_end = tape[3 * i] == END;
+        if rule_ends {
             rule = i + 1;
         }
-        if tape[3 * i] == END {
+        if lets_end {
             lets = i + 1;
         }
     }

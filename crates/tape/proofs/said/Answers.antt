@@ -1,5 +1,5 @@
 -- `tape::said` meets its contract: what is left of the items answers as all of them. Assumes nothing.
-use Rattle.std.proofs.Common.{◌≡◌, arith, sym, ap, ◌∙◌, List, ℕ}
+use Rattle.std.proofs.Common.{arith, sym, ap, ◌∙◌, List, ℕ}
 use Rattle.language.specs.Text.{same}
 use Rattle.tape.proofs.Walks.{said_here, said_next, said_other, said_none}
 use Rattle.tape.proofs.said.Goals as goal
