@@ -4,11 +4,16 @@ use mathlib.Core.List.{List, [], ◌∷◌}
 use mathlib.Core.Option.{Option, none, some}
 use Prim.Native.Nat.{ℕ, min}
 use Rattle.language.specs.Text.{earliest}
-use Rattle.language.specs.Reading.{Early, stopped, row}
+use Rattle.language.specs.Tree.{Actor}
+use Rattle.language.specs.Bindings.{Bindings}
+use Rattle.language.specs.Reading.{Early, stopped, through, row}
 use Rattle.language.specs.declared.Text.{Text}
 use Rattle.words.specs.Found.{place_told}
 use Rattle.words.specs.Found.{Place}
-use Rattle.std.specs.Prelude.{Some, None}
+use Rattle.std.specs.Prelude.{Some, None, Ok, Err}
+use Rattle.std.specs.Result.{IsErrAnd}
+use Rattle.early_rows.specs.declared.Fault.{Fault}
+use Rattle.early_rows.specs.Verdicts.{Verdict, verdict_of, verdict_by}
 
 abbrev pub row_by : ℕ → Text → Early → Place → Early
 row_by n t next (Some p) = stopped n t p
@@ -36,9 +41,38 @@ no_fault (p ∷ l) e f = absurd (go (earliest l) (sym e ∙ f))
     go none z = subst mark (sym z) tt
     go (some q) z = subst mark (sym z) tt
 
-module _ (n : ℕ) (t : Text) (l : List ℕ) (next : Early) {r : Place} (e : r ≡ place_told (earliest l)) where
-  pub stops_at_law : {p : ℕ} → r ≡ Some p → row n t l next ≡ stopped n t p
-  stops_at_law f = row_told n t l next e ∙ ap (row_by n t next) f
+-- a verdict is a refusal or none
+abbrev through_mark : Verdict → Type 0
+through_mark (Ok u) = Unit {0}
+through_mark (Err f) = ⊥
 
-  pub goes_on_law : r ≡ None → row n t l next ≡ next
-  goes_on_law f = row_told n t l next e ∙ ap (row_by n t next) f
+-- what a `?` hands on
+pub refused : (v : Verdict) (x : Fault) → IsErrAnd v (λ y. y ≡ x) → v ≡ Err x
+refused (Ok u) x h = absurd h
+refused (Err y) x h = ap Err h
+
+module _ (n : ℕ) (t : Text) (l : List ℕ) (next : Early) {r : Place} (e : r ≡ place_told (earliest l)) {v : Verdict} (f : v ≡ verdict_by n t r) where
+  pub stops_at_law : {x : Fault} → v ≡ Err x → verdict_of (row n t l next) ≡ Err x
+  unfolding verdict_by verdict_of
+  stops_at_law {x} g = ap verdict_of (row_told n t l next e) ∙ go r (sym f ∙ g)
+    where
+      go : (r : Place) → verdict_by n t r ≡ Err x → verdict_of (row_by n t next r) ≡ Err x
+      go (Some p) h = h
+      go None h = absurd (subst through_mark h tt)
+
+  pub goes_on_law : {u : Unit {0}} → v ≡ Ok u → row n t l next ≡ next
+  unfolding verdict_by
+  goes_on_law {u} g = row_told n t l next e ∙ go r (sym f ∙ g)
+    where
+      go : (r : Place) → verdict_by n t r ≡ Ok u → row_by n t next r ≡ next
+      go (Some p) h = absurd (subst through_mark (sym h) tt)
+      go None h = refl
+
+-- the last row
+pub ends_law : (n : ℕ) (t : Text) (l : List ℕ) (a : Actor) (b : Bindings) {r : Place} → r ≡ place_told (earliest l) → {v : Verdict} → v ≡ verdict_by n t r → v ≡ verdict_of (row n t l (through a b))
+unfolding verdict_by verdict_of
+ends_law n t l a b {r} e f = f ∙ go r ∙ sym (ap verdict_of (row_told n t l (through a b) e))
+  where
+    go : (r : Place) → verdict_by n t r ≡ verdict_of (row_by n t (through a b) r)
+    go (Some p) = refl
+    go None = refl

@@ -1,5 +1,6 @@
 -- What rows 6 to 9 answer, and what they go by. Assumes nothing: these are definitions.
-use Rattle.std.specs.Prelude.{◌≡◌, ℕ, ◌≤◌, List, length}
+use Rattle.std.specs.Prelude.{◌≡◌, ℕ, ◌≤◌, List, length, Some, None, Result, Ok, Err}
+use Rattle.language.specs.declared.Text.{Text}
 use Rattle.language.specs.Limits.{limits}
 use Rattle.language.specs.Words.{Word}
 use Rattle.language.specs.Tree.{Actor}
@@ -8,13 +9,22 @@ use Rattle.language.specs.Reading.{Early, stopped, through, judged}
 use Rattle.tape.specs.Row.{Tells}
 use Rattle.bindings.specs.declared.Lines.{Lines}
 use Rattle.row09_bindings.specs.Lines.{Binds}
-use Rattle.early_rows.specs.declared.Verdict.{Verdict}
-use Rattle.early_rows.specs.declared.Verdict.TheVariants.{Stopped, Through}
+use Rattle.words.specs.Found.{Place}
+use Rattle.early_rows.specs.declared.Fault.{Fault}
+
+-- the first fault, or none
+abbrev pub Verdict : Type 0
+Verdict = Result (Unit {0}) Fault
 
 -- rows 6 to 9
 unfoldable pub verdict_of : Early → Verdict
-verdict_of (stopped n t p) = Stopped n t p
-verdict_of (through a b) = Through
+verdict_of (stopped n t p) = Err (record { row = n; text = t; place = p })
+verdict_of (through a b) = Ok tt
+
+-- one row, by the place that it tells
+unfoldable pub verdict_by : ℕ → Text → Place → Verdict
+verdict_by n t (Some p) = Err (record { row = n; text = t; place = p })
+verdict_by n t None = Ok tt
 
 -- a tape and a table that hold an actor and its bindings
 pub record TextsHeld (text t : List ℕ) (n : ℕ) (btext table : List ℕ) (lines : Lines) (ws : List Word) (a : Actor) (b : Bindings) : Type 0 where

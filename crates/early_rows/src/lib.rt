@@ -3,21 +3,34 @@
 // What goes out: the first fault, with its row, its text and its place, or that there is none.
 #![tactic(auto)]
 
-ghost use Rattle.std.specs.Prelude.{List, ◌≤◌, length};
+ghost use Rattle.std.specs.Prelude.{◌≡◌, List, ◌≤◌, length};
 ghost use Rattle.language.specs.Words.{Word};
 ghost use Rattle.language.specs.Tree.{Actor};
 ghost use Rattle.language.specs.Bindings.{Bindings};
 ghost use Rattle.bindings.specs.Table.{Lined};
-ghost use Rattle.early_rows.specs.Verdicts.{TextsHeld, FirstTold};
+ghost use Rattle.early_rows.specs.Verdicts.{verdict_by, TextsHeld, FirstTold};
 
 use bindings::Lines;
 use language::Text;
+use row09_bindings::{strangers, unsettled};
 
-// The first fault, with its row, text and place, or none.
+// A fault of a row, with its text and its place there.
 #[derive(Clone, Copy)]
-pub enum Verdict {
-    Stopped(u32, Text, u32),
-    Through,
+pub struct Fault {
+    pub row: u32,
+    pub text: Text,
+    pub place: u32,
+}
+
+// A row goes through where it tells no place.
+#[tactic(auto, unfolding(crate::specs::Verdicts::verdict_by))]
+fn passes(row: u32, text: Text, told: Option<u32>) -> Result<(), Fault>
+    ensures { result ≡ verdict_by row text told }
+{
+    match told {
+        Some(place) => Err(Fault { row, text, place }),
+        None => Ok(()),
+    }
 }
 
 // The first fault of an actor that the grammar takes, by its names, limits, types and bindings.
@@ -28,29 +41,22 @@ pub fn first(
     btext: &[u8],
     table: &[u32],
     lines: Lines,
-) -> Verdict
+) -> Result<(), Fault>
     requires n_in_bounds { (n ≤ length tape.now) × Lined lines table.now }
     requires texts_held { (ws : List Word) × (a : Actor) × (b : Bindings) × TextsHeld text.now tape.now n btext.now table.now lines ws a b }
     ensures { FirstTold text.now tape.now n btext.now table.now lines result }
 {
-    match row06_names::fault(text, tape, n) {
-        Some(p) => return Verdict::Stopped(6, Text::Actor, p),
-        None => {}
-    }
-    match row07_limits::fault(text, tape, n) {
-        Some(p) => return Verdict::Stopped(7, Text::Actor, p),
-        None => {}
-    }
-    match row08_types::fault(tape, n) {
-        Some(p) => return Verdict::Stopped(8, Text::Actor, p),
-        None => {}
-    }
-    match row09_bindings::strangers(text, tape, n, btext, table, lines) {
-        Some(p) => return Verdict::Stopped(9, Text::Bindings, p),
-        None => {}
-    }
-    match row09_bindings::unsettled(text, tape, n, btext, table, lines) {
-        Some(p) => Verdict::Stopped(9, Text::Actor, p),
-        None => Verdict::Through,
-    }
+    passes(6, Text::Actor, row06_names::fault(text, tape, n))?;
+    passes(7, Text::Actor, row07_limits::fault(text, tape, n))?;
+    passes(8, Text::Actor, row08_types::fault(tape, n))?;
+    passes(
+        9,
+        Text::Bindings,
+        strangers(text, tape, n, btext, table, lines),
+    )?;
+    passes(
+        9,
+        Text::Actor,
+        unsettled(text, tape, n, btext, table, lines),
+    )
 }

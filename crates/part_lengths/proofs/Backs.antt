@@ -1,6 +1,6 @@
 -- The items before one; back over a part of them; the places of the words. Each as a loop comes by it. Assumes nothing.
-use mathlib.Core.Path.{◌≡◌, refl, sym, ap, ap₂, ◌∙◌}
-use mathlib.Core.Bool.{Bool, true, false}
+use mathlib.Core.Path.{◌≡◌, refl, sym, ap, ap₂, subst, ◌∙◌}
+use mathlib.Core.Bool.{true, false}
 use mathlib.Core.List.{List, [], ◌∷◌, ◌++◌}
 use Prim.Native.Nat.{ℕ, zero, suc, ◌+◌, ◌*◌, ◌-◌, ◌≤◌, ◌<◌}
 use native.Mathlib.Numerals.{add-one}
@@ -11,11 +11,12 @@ use Rattle.language.specs.Text.{earliest}
 use Rattle.words.specs.Found.{place_told, earlier_of}
 use Rattle.words.specs.Found.{Place}
 use Rattle.std.specs.Prelude.{Some, None}
+use Rattle.std.specs.Option.{unwrap_or}
 use Rattle.tape.specs.Walk.{op_at, place_at, value_at}
 use Rattle.tape.proofs.Walks.{told_earlier}
 use Rattle.part_lengths.specs.declared.Part.{Part}
 use Rattle.part_lengths.specs.declared.Length.{Length}
-use Rattle.part_lengths.specs.Parts.{Triple, before, holds_of, own_of, lead_in, over_of, one, back, rest, IsWhole, places_in, first_of, after_in, long_in, held_in, both_of}
+use Rattle.part_lengths.specs.Parts.{Triple, before, holds_of, own_of, lead_in, over_of, one, back, rest, length_of, IsWhole, places_in, first_of, after_in, long_in, held_in, both_of}
 
 -- ---- the items before one
 
@@ -27,29 +28,13 @@ before_last t (suc i) h = let e : suc i - 1 ≡ i = omega arith in rw e
 -- ---- back over a part
 
 module _ (p : Part) (o q : ℕ) {w x : ℕ} (f : w ≡ holds_of o) (g : x ≡ own_of o) where
-  pub over_leads : lead_in p o ≡ true → ◌≡◌ {A = Part} (record { wanted = p.wanted - 1 + w; words = p.words + x; start = q; found = true }) (over_of p o q)
+  pub over_leads : lead_in p o ≡ true → ◌≡◌ {A = Part} (record { wanted = p.wanted - 1 + w; words = p.words + x; start = Some q }) (over_of p o q)
   unfolding over_of
   over_leads e = sym (simp (over_of, e, sym f, sym g))
 
-  pub over_follows : lead_in p o ≡ false → ◌≡◌ {A = Part} (record { wanted = p.wanted - 1 + w; words = p.words + x; start = p.start; found = p.found }) (over_of p o q)
+  pub over_follows : lead_in p o ≡ false → ◌≡◌ {A = Part} (record { wanted = p.wanted - 1 + w; words = p.words + x; start = p.start }) (over_of p o q)
   unfolding over_of
   over_follows e = sym (simp (over_of, e, sym f, sym g))
-
-over_wanted : (p : Part) (o q : ℕ) → (over_of p o q).wanted ≡ p.wanted - 1 + holds_of o
-unfolding over_of
-over_wanted p o q = go (lead_in p o)
-  where
-    go : (b : Bool) → (elim b as (λ (x : Bool). Part) [ true ↦ record { wanted = p.wanted - 1 + holds_of o; words = p.words + own_of o; start = q; found = true } | false ↦ record { wanted = p.wanted - 1 + holds_of o; words = p.words + own_of o; start = p.start; found = p.found } ]).wanted ≡ p.wanted - 1 + holds_of o
-    go true = refl
-    go false = refl
-
-over_words : (p : Part) (o q : ℕ) → (over_of p o q).words ≡ p.words + own_of o
-unfolding over_of
-over_words p o q = go (lead_in p o)
-  where
-    go : (b : Bool) → (elim b as (λ (x : Bool). Part) [ true ↦ record { wanted = p.wanted - 1 + holds_of o; words = p.words + own_of o; start = q; found = true } | false ↦ record { wanted = p.wanted - 1 + holds_of o; words = p.words + own_of o; start = p.start; found = p.found } ]).words ≡ p.words + own_of o
-    go true = refl
-    go false = refl
 
 -- so far back: item i, with the part so far, where the whole part ends before item `end`
 pub record Gone (t : List ℕ) (end i : ℕ) (p : Part) : Type 0 where
@@ -63,32 +48,32 @@ pub gone_none : (t : List ℕ) (end : ℕ) → Gone t end end one
 gone_none t end = record { inside = omega arith; wanted = omega arith; words = omega arith; same = refl; left = refl }
 
 module _ (t : List ℕ) (end i : ℕ) (p : Part) (g : Gone t end i p) where
-  whole_is : back p (before t i) ≡ p → rest p (before t i) ≡ before t i → IsWhole t end (record { at = i; words = p.words; start = p.start })
+  whole_is : back p (before t i) ≡ p → rest p (before t i) ≡ before t i → IsWhole t end (length_of p i)
   whole_is e f =
       record {
         inside = g.inside;
         words = sym (ap (λ (p : Part). p.words) (g.same ∙ e));
-        start = sym (ap (λ (p : Part). p.start) (g.same ∙ e));
+        start = sym (ap (λ (p : Part). unwrap_or p.start 0) (g.same ∙ e));
         rest = sym (g.left ∙ f);
       }
 
-  pub whole_first : i ≡ 0 → IsWhole t end (record { at = i; words = p.words; start = p.start })
+  pub whole_first : i ≡ 0 → IsWhole t end (length_of p 0)
   unfolding before back rest
-  whole_first e = whole_is (rw e) (rw e)
+  whole_first e = subst (λ (k : ℕ). IsWhole t end (length_of p k)) e (whole_is (rw e) (rw e))
 
   module _ (h : 0 < i) where
-    pub whole_here : p.wanted ≡ 0 → IsWhole t end (record { at = i; words = p.words; start = p.start })
+    pub whole_here : p.wanted ≡ 0 → IsWhole t end (length_of p i)
     unfolding back rest
     whole_here e = whole_is (ap (back p) (before_last t i h) ∙ simp (back, eq-eqb _ _ e)) (ap (rest p) (before_last t i h) ∙ (simp (rest, eq-eqb _ _ e)) ∙ sym (before_last t i h))
 
     module _ (n : p.wanted ≡ 0 → ⊥) (a : holds_of (op_at t (i - 1)) ≤ 3) (b : own_of (op_at t (i - 1)) ≤ 3) {r : Part} (e : r ≡ over_of p (op_at t (i - 1)) (place_at t (i - 1))) where
       pub gone_more : Gone t end (i - 1) r
-      unfolding back rest
+      unfolding back rest over_of
       gone_more =
           record {
             inside = let k = g.inside in omega arith;
-            wanted = let k = ap (λ (p : Part). p.wanted) e ∙ over_wanted p _ _ in let l = g.wanted in let m = g.inside in omega arith;
-            words = let k = ap (λ (p : Part). p.words) e ∙ over_words p _ _ in let l = g.words in let m = g.inside in omega arith;
+            wanted = let k = ap (λ (p : Part). p.wanted) e in let l = g.wanted in let m = g.inside in omega arith;
+            words = let k = ap (λ (p : Part). p.words) e in let l = g.words in let m = g.inside in omega arith;
             same = g.same ∙ ap (back p) (before_last t i h) ∙ simp (back, ne_eqb _ _ n) (ap (λ (q : Part). back q (before t (i - 1))) (sym e));
             left = g.left ∙ ap (rest p) (before_last t i h) ∙ simp (rest, ne_eqb _ _ n) (ap (λ (q : Part). rest q (before t (i - 1))) (sym e));
           }
@@ -166,7 +151,7 @@ module _ (ps : List ℕ) (t : List ℕ) (end last other : ℕ) where
   held_none e = sym (simp (held_in, eq-eqb _ _ e))
 
   module _ (n : last ≡ 0 → ⊥) {w : Length} (h : IsWhole t end w) {a : Place} (f : a ≡ place_told (earliest (long_in ps last w.words w.start))) where
-    first_is : long_in ps last w.words w.start ≡ long_in ps last (back one (before t end)).words (back one (before t end)).start
+    first_is : long_in ps last w.words w.start ≡ long_in ps last (back one (before t end)).words (unwrap_or (back one (before t end)).start 0)
     first_is = ap₂ (long_in ps last) h.words h.start
 
     pub held_one : other ≡ 0 → Held a
@@ -177,5 +162,5 @@ module _ (ps : List ℕ) (t : List ℕ) (end last other : ℕ) where
     unfolding held_in
     held_two m {v} k {b} {r} g q = q ∙ ap₂ both_of f g ∙ both_told _ _ ∙ ap (λ (l : List ℕ). place_told (earliest l)) (ap₂ (λ (x y : List ℕ). x ++ y) first_is second_is ∙ sym (simp (held_in, ne_eqb _ _ n, ne_eqb _ _ m)))
       where
-        second_is : long_in ps other v.words v.start ≡ long_in ps other (back one (rest one (before t end))).words (back one (rest one (before t end))).start
-        second_is = ap₂ (long_in ps other) k.words k.start ∙ ap (λ (l : List Triple). long_in ps other (back one l).words (back one l).start) h.rest
+        second_is : long_in ps other v.words v.start ≡ long_in ps other (back one (rest one (before t end))).words (unwrap_or (back one (rest one (before t end))).start 0)
+        second_is = ap₂ (long_in ps other) k.words k.start ∙ ap (λ (l : List Triple). long_in ps other (back one l).words (unwrap_or (back one l).start 0)) h.rest

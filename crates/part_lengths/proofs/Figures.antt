@@ -1,12 +1,6 @@
--- The tables by operation: each byte is a figure, the figures are small, and past the end there are none. Assumes nothing.
-use mathlib.Core.Path.{◌≡◌, refl, sym, ap}
-use mathlib.Core.Bool.{Bool, true, false, ◌&&◌}
-use mathlib.Core.List.{List, [], ◌∷◌}
-use Prim.Native.Nat.{ℕ, zero, suc, ◌-◌, ◌≤◌, ◌<◌}
-use native.Mathlib.Omega.{arith}
-use lib.Dec.{eqb, leb}
-use borrow.Author.Tests.{leb-true}
-use lib.ListN.{length, get_or, get_or-eq_default}
+-- The tables by operation: each byte is a figure, and the figures are small. Assumes nothing.
+use Rattle.std.proofs.Common.{◌≡◌, ◌≢◌, refl, sym, ◌∙◌, Bool, true, false, ◌&&◌, List, [], ◌∷◌, ℕ, zero, suc, ◌-◌, ◌≤◌, ◌<◌, ◌⊎◌, inl, inr, arith, length, get_or, eqb, leb, leb-true, eq-eqb, ne_eqb}
+use Rattle.std.proofs.lemmas.Bool.Decides.{eqb_tells}
 use Rattle.language.specs.Words.{bytes}
 use Rattle.spelling.proofs.Laws.{both_left, both_right}
 use Rattle.part_lengths.specs.Parts.{holds_table, own_table, leads_table, holds_of, own_of, leads_of}
@@ -26,14 +20,6 @@ small_at [] h i = omega arith
 small_at (x ∷ l) h zero = let e = (figure_at (x ∷ l) h 0 (omega arith)).1 in omega arith
 small_at (x ∷ l) h (suc i) = small_at l (both_right (leb 48 x && leb x 51) (figures l) h) i
 
-pub holds_figure : (i : ℕ) → i < 48 → 48 ≤ get_or holds_table i 0
-unfolding holds_table bytes
-holds_figure i h = (figure_at holds_table refl i h).0
-
-pub own_figure : (i : ℕ) → i < 48 → 48 ≤ get_or own_table i 0
-unfolding own_table bytes
-own_figure i h = (figure_at own_table refl i h).0
-
 pub holds_small : (o : ℕ) → holds_of o ≤ 3
 unfolding holds_of holds_table bytes
 holds_small o = small_at holds_table refl o
@@ -42,14 +28,11 @@ pub own_small : (o : ℕ) → own_of o ≤ 3
 unfolding own_of own_table bytes
 own_small o = small_at own_table refl o
 
-pub holds_past : (o : ℕ) → 48 ≤ o → 0 ≡ holds_of o
-unfolding holds_of holds_table bytes
-holds_past o h = sym (ap (λ (x : ℕ). x - 48) (get_or-eq_default holds_table 0 h))
-
-pub own_past : (o : ℕ) → 48 ≤ o → 0 ≡ own_of o
-unfolding own_of own_table bytes
-own_past o h = sym (ap (λ (x : ℕ). x - 48) (get_or-eq_default own_table 0 h))
-
-pub leads_past : (o : ℕ) → 48 ≤ o → false ≡ leads_of o
-unfolding leads_of leads_table bytes
-leads_past o h = sym (ap (λ (x : ℕ). eqb x 49) (get_or-eq_default leads_table 0 h))
+-- the figure 1
+pub leads_one : (o : ℕ) → eqb (get_or leads_table o 0 - 48) 1 ≡ leads_of o
+unfolding leads_of
+leads_one o = go (get_or leads_table o 0) (eqb_tells _ 49)
+  where
+    go : (x : ℕ) → ((eqb x 49 ≡ true) × (x ≡ 49)) ⊎ ((eqb x 49 ≡ false) × (x ≢ 49)) → eqb (x - 48) 1 ≡ eqb x 49
+    go x (inl e) = eq-eqb _ _ (let k = e.1 in omega arith) ∙ sym e.0
+    go x (inr e) = ne_eqb _ _ (λ k. e.1 (omega arith)) ∙ sym e.0

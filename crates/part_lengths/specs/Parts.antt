@@ -1,9 +1,9 @@
 -- The types and whole expressions of a tape: how many words they have, and the place of the first word too many. Assumes nothing: these are definitions.
-use Rattle.std.specs.Prelude.{◌≡◌, Bool, true, false, List, [], ◌∷◌, ◌++◌, ℕ, zero, suc, ◌+◌, ◌*◌, ◌-◌, ◌≤◌, eqb, leb, get_or, drop}
+use Rattle.std.specs.Prelude.{◌≡◌, Bool, true, false, not, ◌&&◌, List, [], ◌∷◌, ◌++◌, ℕ, zero, suc, ◌+◌, ◌*◌, ◌-◌, ◌≤◌, eqb, leb, get_or, drop}
 use Rattle.language.specs.Words.{bytes}
-use Rattle.words.specs.Found.{Place}
 use Rattle.std.specs.Prelude.{Some, None}
-use Rattle.words.specs.Found.{earlier_of}
+use Rattle.std.specs.Option.{is_some, unwrap_or}
+use Rattle.words.specs.Found.{Place, earlier_of}
 use Rattle.tape.specs.Walk.{op_at, place_at, value_at}
 use Rattle.part_lengths.specs.declared.Part.{Part}
 use Rattle.part_lengths.specs.declared.Length.{Length}
@@ -42,19 +42,15 @@ leads_of o = eqb (get_or leads_table o 0) 49
 
 -- whether an item has the first word of the part: the first that has one where a single part is still wanted
 unfoldable pub lead_in : Part → ℕ → Bool
-lead_in p o = elim p.found [ true ↦ false | false ↦ elim (eqb p.wanted 1) [ true ↦ leads_of o | false ↦ false ] ]
+lead_in p o = not (is_some p.start) && (eqb p.wanted 1 && leads_of o)
 
 -- one item further back
 unfoldable pub over_of : Part → ℕ → ℕ → Part
-over_of p o q =
-    elim (lead_in p o) [
-      | true ↦ record { wanted = p.wanted - 1 + holds_of o; words = p.words + own_of o; start = q; found = true }
-      | false ↦ record { wanted = p.wanted - 1 + holds_of o; words = p.words + own_of o; start = p.start; found = p.found }
-    ]
+over_of p o q = record { wanted = p.wanted - 1 + holds_of o; words = p.words + own_of o; start = elim (lead_in p o) [ true ↦ Some q | false ↦ p.start ] }
 
 -- a part to come
 abbrev pub one : Part
-one = record { wanted = 1; words = 0; start = 0; found = false }
+one = record { wanted = 1; words = 0; start = None }
 
 -- back over the items of a part: its words and the place of the first; and the items before it
 unfoldable pub back : Part → List Triple → Part
@@ -65,10 +61,14 @@ unfoldable pub rest : Part → List Triple → List Triple
 rest p [] = []
 rest p (x ∷ l) = elim (eqb p.wanted 0) [ true ↦ x ∷ l | false ↦ rest (over_of p x.op x.place) l ]
 
+-- a part that starts at an item; at place 0 where it has no word of its own
+abbrev pub length_of : Part → ℕ → Length
+length_of p i = record { at = i; words = p.words; start = unwrap_or p.start 0 }
+
 pub record IsWhole (t : List ℕ) (end : ℕ) (r : Length) : Type 0 where
   pub inside : r.at ≤ end
   pub words : r.words ≡ (back one (before t end)).words
-  pub start : r.start ≡ (back one (before t end)).start
+  pub start : r.start ≡ unwrap_or (back one (before t end)).start 0
   pub rest : before t r.at ≡ rest one (before t end)
 
 -- ---- the words' places
@@ -97,8 +97,8 @@ held_in ps l last other =
     elim (eqb last 0) [
       | true ↦ []
       | false ↦ elim (eqb other 0) [
-        | true ↦ long_in ps last (back one l).words (back one l).start
-        | false ↦ long_in ps last (back one l).words (back one l).start ++ long_in ps other (back one (rest one l)).words (back one (rest one l)).start
+        | true ↦ long_in ps last (back one l).words (unwrap_or (back one l).start 0)
+        | false ↦ long_in ps last (back one l).words (unwrap_or (back one l).start 0) ++ long_in ps other (back one (rest one l)).words (unwrap_or (back one (rest one l)).start 0)
       ]
     ]
 

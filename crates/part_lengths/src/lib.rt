@@ -3,20 +3,18 @@
 // What goes out: the place of the first word too many, by the table of the words.
 #![tactic(auto)]
 
-ghost use Rattle.std.specs.Prelude.{◌≡◌, ◌+◌, ◌-◌, ◌*◌, ◌≤◌, ◌<◌, length, drop};
+ghost use Rattle.std.specs.Prelude.{◌≡◌, ◌+◌, ◌-◌, ◌*◌, ◌≤◌, ◌<◌, length, get_or, drop};
 ghost use Rattle.language.specs.Text.{earliest};
 ghost use Rattle.words.specs.Found.{place_told};
-ghost use Rattle.part_lengths.specs.Parts.{holds_of, own_of, leads_of, lead_in, over_of, both_of, IsWhole, places_in, after_in, long_in, held_in, before, first_of};
-
+ghost use Rattle.part_lengths.specs.Parts.{lead_in, over_of, both_of, IsWhole, places_in, after_in, long_in, held_in, before, first_of, length_of};
 
 // A type or an expression, gone back over so far: how many parts are still wanted, the words, and the place of the
-// first one once that is found.
+// first one, if that is found.
 #[derive(Clone, Copy)]
 pub struct Part {
     pub wanted: usize,
     pub words: usize,
-    pub start: u32,
-    pub found: bool,
+    pub start: Option<u32>,
 }
 
 // A whole type or expression: the item that it starts at, its words, and the place of the first one.
@@ -38,53 +36,22 @@ const OWN: [u8; OPERATIONS] = *b"01131133331212121313232211123223300000000000000
 
 const LEADS: [u8; OPERATIONS] = *b"011100111101110011110011010011111000000000000000";
 
-fn wide(x: u32) -> usize
-    ensures { result ≡ x }
+// The figure of an operation in such a table; 0 past its end.
+fn figure(table: &[u8], op: u32) -> usize
+    ensures { result ≡ get_or table.now op 0 - 48 }
 {
-    x as usize
-}
-
-fn holds(op: u32) -> usize
-    ensures { (result ≡ holds_of op) × (result ≤ 3) }
-{
-    let i = wide(op);
-    if i < OPERATIONS {
-        return (HOLDS[i] - b'0') as usize;
+    match table.get(op as usize) {
+        Some(digit) => digit.saturating_sub(b'0') as usize,
+        None => 0,
     }
-    0
-}
-
-fn own(op: u32) -> usize
-    ensures { (result ≡ own_of op) × (result ≤ 3) }
-{
-    let i = wide(op);
-    if i < OPERATIONS {
-        return (OWN[i] - b'0') as usize;
-    }
-    0
-}
-
-fn leads(op: u32) -> bool
-    ensures { result ≡ leads_of op }
-{
-    let i = wide(op);
-    if i < OPERATIONS {
-        return LEADS[i] == b'1';
-    }
-    false
 }
 
 // Whether an item has the first word of the part: the first that has one where a single part is still wanted.
+#[tactic(auto, using(crate::proofs::Figures::leads_one), unfolding(crate::specs::Parts::lead_in, crate::specs::Parts::leads_table, language::specs::Words::bytes))]
 fn lead(part: Part, op: u32) -> bool
     ensures { result ≡ lead_in part op }
 {
-    if part.found {
-        return false;
-    }
-    if part.wanted == 1 {
-        return leads(op);
-    }
-    false
+    part.start.is_none() && part.wanted == 1 && figure(&LEADS, op) == 1
 }
 
 // One item further back.
@@ -92,21 +59,14 @@ fn over(part: Part, op: u32, place: u32) -> Part
     requires { (0 < part.wanted) × (part.wanted + 2 ≤ 18446744073709551615) × (part.words + 3 ≤ 18446744073709551615) }
     ensures { result ≡ over_of part op place }
 {
-    let wanted = part.wanted - 1 + holds(op);
-    let words = part.words + own(op);
-    if lead(part, op) {
-        return Part {
-            wanted,
-            words,
-            start: place,
-            found: true,
-        };
-    }
     Part {
-        wanted,
-        words,
-        start: part.start,
-        found: part.found,
+        wanted: part.wanted - 1 + figure(&HOLDS, op),
+        words: part.words + figure(&OWN, op),
+        start: if lead(part, op) {
+            Some(place)
+        } else {
+            part.start
+        },
     }
 }
 
@@ -118,25 +78,25 @@ fn whole(tape: &[u32], end: usize) -> Length
     let mut part = Part {
         wanted: 1,
         words: 0,
-        start: 0,
-        found: false,
+        start: None,
     };
-    let mut i = end;
-    while 0 < i {
+    for i in (0..end).rev() {
         if part.wanted == 0 {
-            return Length {
-                at: i,
-                words: part.words,
-                start: part.start,
-            };
+            return started(part, i + 1);
         }
-        i -= 1;
         part = over(part, tape[3 * i], tape[3 * i + 1]);
     }
+    started(part, 0)
+}
+
+// A part that starts at an item, where a part without a word of its own starts at place 0.
+fn started(part: Part, at: usize) -> Length
+    ensures { result ≡ length_of part at }
+{
     Length {
-        at: i,
+        at,
         words: part.words,
-        start: part.start,
+        start: part.start.unwrap_or(0),
     }
 }
 
@@ -145,12 +105,10 @@ fn word_after(table: &[u32], many: usize, place: u32, more: usize) -> Option<u32
     requires { 4 * many ≤ length table.now }
     ensures { result ≡ place_told (earliest (after_in (places_in table.now 0 many) place more)) }
 {
-    let mut i = 0;
-    while i < many {
+    for i in 0..many {
         if table[4 * i + 1] == place {
             return nth_place(table, many, i, more);
         }
-        i += 1;
     }
     None
 }
@@ -163,8 +121,7 @@ fn nth_place(table: &[u32], many: usize, i: usize, more: usize) -> Option<u32>
     if many - i <= more {
         return None;
     }
-    let j = i + more;
-    Some(table[4 * j + 1])
+    Some(table[4 * (i + more) + 1])
 }
 
 // The first word too many of a part, where it has any.
@@ -172,7 +129,7 @@ fn too_long(table: &[u32], many: usize, part: Length, limit: u32) -> Option<u32>
     requires { 4 * many ≤ length table.now }
     ensures { result ≡ place_told (earliest (long_in (places_in table.now 0 many) limit part.words part.start)) }
 {
-    let most = wide(limit);
+    let most = limit as usize;
     if part.words <= most {
         return None;
     }
@@ -190,7 +147,14 @@ pub fn both(a: Option<u32>, b: Option<u32>) -> Option<u32>
 }
 
 // The faults of the parts before an item: the last one by a limit, the one before it by another. No limit, 0: no part.
-pub fn held(table: &[u32], many: usize, tape: &[u32], end: usize, last: u32, other: u32) -> Option<u32>
+pub fn held(
+    table: &[u32],
+    many: usize,
+    tape: &[u32],
+    end: usize,
+    last: u32,
+    other: u32,
+) -> Option<u32>
     requires { (4 * many ≤ length table.now) × (3 * end ≤ length tape.now) }
     ensures { result ≡ place_told (earliest (held_in (places_in table.now 0 many) (before tape.now end) last other)) }
 {

@@ -1,6 +1,5 @@
--- Row 6: the names met on a tape (Seens), the test of an item (Tests), what the walk does part by part (Parts, Actors), and that the
--- faulty places are those of the definition (Faults); then the theorem.
-pub mod Tests
+-- Row 6: the names met on a tape (Seens), what the walk does part by part (Parts, Actors), and that the faulty places are
+-- those of the definition (Faults); then the theorem.
 pub mod Seens
 pub mod Parts
 pub mod Actors

@@ -14,41 +14,41 @@ ghost use Rattle.row06_names.specs.Walk.{faulty, faults_at};
 
 use tape::{
     ASSIGN, Class, DECLARED, END, ENVIRONMENT, MEMORY, PORT, PRESENT, READ, RULED, SIGNED, VAL,
-    VALUE, either, from, name, said, wide,
+    VALUE, name, said,
 };
 
 // Whether item i is at fault: this rule's items stand from `rule` on, the `let`s in force from `lets` on.
+#[tactic(auto, unfolding(crate::specs::Walk::test))]
 fn at_fault(text: &[u8], tape: &[u32], many: usize, rule: usize, lets: usize, i: usize) -> bool
     requires { (3 * many ≤ length tape.now) × (i < many) × (rule ≤ i) × (lets ≤ i) }
     ensures { result ≡ faulty text.now tape.now many rule lets i }
 {
-    let called = name(text, wide(tape[3 * i + 1]));
+    let called = name(text, tape[3 * i + 1] as usize);
     match tape[3 * i] {
-        SIGNED => either(
-            said(text, tape, 0, i, Class::Signed, called),
-            !said(text, tape, 0, many, Class::Declared, called),
-        ),
-        DECLARED => either(
-            !said(text, tape, 0, many, Class::Signed, called),
-            said(text, tape, 0, i, Class::Taken, called),
-        ),
+        SIGNED => {
+            said(text, tape, 0, i, Class::Signed, called)
+                || !said(text, tape, 0, many, Class::Declared, called)
+        }
+        DECLARED => {
+            !said(text, tape, 0, many, Class::Signed, called)
+                || said(text, tape, 0, i, Class::Taken, called)
+        }
         MEMORY => said(text, tape, 0, i, Class::Taken, called),
-        ENVIRONMENT => said(text, tape, 0, many, Class::Taken, called),
-        VALUE => said(text, tape, 0, many, Class::Taken, called),
+        ENVIRONMENT | VALUE => said(text, tape, 0, many, Class::Taken, called),
         PORT => !said(text, tape, 0, many, Class::Declared, called),
-        PRESENT => either(
-            !said(text, tape, 0, many, Class::Declared, called),
-            said(text, tape, rule, i, Class::Present, called),
-        ),
-        READ => !either(
-            said(text, tape, 0, many, Class::Input, called),
-            said(text, tape, lets, i, Class::Val, called),
-        ),
+        PRESENT => {
+            !said(text, tape, 0, many, Class::Declared, called)
+                || said(text, tape, rule, i, Class::Present, called)
+        }
+        READ => {
+            !said(text, tape, 0, many, Class::Input, called)
+                && !said(text, tape, lets, i, Class::Val, called)
+        }
         ASSIGN => !said(text, tape, 0, many, Class::Output, called),
-        VAL => either(
-            said(text, tape, lets, i, Class::Val, called),
-            said(text, tape, 0, many, Class::Taken, called),
-        ),
+        VAL => {
+            said(text, tape, lets, i, Class::Val, called)
+                || said(text, tape, 0, many, Class::Taken, called)
+        }
         _ => false,
     }
 }
@@ -61,15 +61,18 @@ fn walk(text: &[u8], tape: &[u32], many: usize) -> Option<u32>
     let mut first = None;
     let mut rule = 0;
     let mut lets = 0;
-    let mut i = 0;
-    while i < many {
+    for i in 0..many {
         if at_fault(text, tape, many, rule, lets, i) {
             first = words::earlier(tape[3 * i + 1], first);
         }
-        let op = tape[3 * i];
-        i += 1;
-        rule = from(op == RULED, i, rule);
-        lets = from(op == END, i, lets);
+        let rule_ends = tape[3 * i] == RULED;
+        let lets_end = tape[3 * i] == END;
+        if rule_ends {
+            rule = i + 1;
+        }
+        if lets_end {
+            lets = i + 1;
+        }
     }
     first
 }

@@ -19,6 +19,7 @@ use Rattle.placed.proofs.Every.{each_append}
 use Rattle.placed.proofs.Same as Same
 use Rattle.placed.proofs.Same.{Same, is, equal, then, swap}
 use Rattle.row07_limits.specs.declared.Room.{Room}
+use Rattle.std.specs.Option.{unwrap_or}
 use Rattle.part_lengths.specs.Parts.{Triple, before, back, one, long_in, held_in}
 use Rattle.row07_limits.specs.Walk.{last_limit, other_limit, size_in, full_for, bad_size, left_of, again_of, all_room, next_room, item_faults, room_at, faults_at}
 use Rattle.row07_limits.proofs.Sums.{nth, ◌⊕◌, nil, same_sum}
@@ -104,7 +105,7 @@ module _ (ps : List ℕ) where
     unfolding held_in
     held_both y k j e d =
         simp (held_in, e, d) (ap₂ (λ (a b : List ℕ). a ++ b) (ap₂ (long_in ps k) (whole_words y (on l)) (whole_start y (on l)))
-        (ap (λ (m : List Triple). long_in ps j (back one m).words (back one m).start) (whole_rest y (on l)) ∙ ap₂ (long_in ps j) (whole_words x l) (whole_start x l)))
+        (ap (λ (m : List Triple). long_in ps j (back one m).words (unwrap_or (back one m).start 0)) (whole_rest y (on l)) ∙ ap₂ (long_in ps j) (whole_words x l) (whole_start x l)))
 
   -- ---- types and expressions
 

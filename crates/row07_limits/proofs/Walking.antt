@@ -1,8 +1,8 @@
 -- The size before an item, its faults, and the walk over all, each as a loop comes by it. Assumes nothing.
 use mathlib.Core.Path.{◌≡◌, refl, sym, ap, ap₂, ◌∙◌}
-use mathlib.Core.Bool.{Bool}
-use mathlib.Core.List.{List}
-use Prim.Native.Nat.{ℕ, ◌+◌, ◌-◌, ◌<◌}
+use mathlib.Core.Bool.{Bool, true, false}
+use mathlib.Core.List.{List, ◌∷◌}
+use Prim.Native.Nat.{ℕ, suc, ◌+◌}
 use native.Mathlib.Numerals.{add-one}
 use borrow.Author.Tests.{eq-eqb, ne_eqb}
 use Rattle.language.specs.Text.{earliest}
@@ -10,51 +10,51 @@ use Rattle.language.specs.Names.{when}
 use Rattle.words.specs.Found.{place_told}
 use Rattle.words.specs.Found.{Place}
 use Rattle.std.specs.Prelude.{None}
+use Rattle.std.specs.Bool.{then_some}
 use Rattle.tape.specs.Walk.{op_at, place_at, value_at}
 use Rattle.row07_limits.specs.declared.Room.{Room}
 use Rattle.part_lengths.specs.Parts.{Triple, before, held_in, both_of}
 use Rattle.row07_limits.specs.Walk.{size_in, size_place_in, full_for, bad_size, last_limit, other_limit, next_room, item_faults, faults_of, room_at, faults_at}
-use Rattle.part_lengths.proofs.Backs.{before_last, both_told}
+use Rattle.part_lengths.proofs.Backs.{both_told}
 
 -- ---- the size before an item
 
-module _ (t : List ℕ) (i : ℕ) where
-  pub size_none : i ≡ 0 → 1 ≡ size_in (before t i)
-  unfolding before size_in
-  size_none e = rw e
+abbrev Sized : (t : List ℕ) (i p : ℕ) → ℕ × ℕ → Type 0
+Sized t i p s = s ≡ (size_place_in (before t i) p, size_in (before t i))
 
-  pub place_none : (p : ℕ) → i ≡ 0 → p ≡ size_place_in (before t i) p
-  unfolding before size_place_in
-  place_none p e = rw e
+pub sized_none : (t : List ℕ) (i p : ℕ) → i ≡ 0 → Sized t i p (p, 1)
+unfolding before size_in size_place_in
+sized_none t i p e = rw e refl
 
-  module _ (h : 0 < i) where
-    pub size_here : op_at t (i - 1) ≡ 45 → value_at t (i - 1) ≡ size_in (before t i)
-    unfolding size_in
-    size_here e = sym (ap size_in (before_last t i h) ∙ simp (size_in, eq-eqb _ _ e))
+module _ (t : List ℕ) (i j p : ℕ) (h : i ≡ suc j) where
+  opens : before t i ≡ record { op = op_at t j; place = place_at t j; value = value_at t j } ∷ before t j
+  unfolding before
+  opens = rw h refl
 
-    pub size_other : (op_at t (i - 1) ≡ 45 → ⊥) → 1 ≡ size_in (before t i)
-    unfolding size_in
-    size_other e = sym (ap size_in (before_last t i h) ∙ simp (size_in, ne_eqb _ _ e))
+  pub sized_here : op_at t j ≡ 45 → Sized t i p (place_at t j, value_at t j)
+  unfolding size_in size_place_in
+  sized_here e = sym (ap (λ (l : List Triple). (size_place_in l p, size_in l)) opens ∙ simp (size_in, size_place_in, eq-eqb _ _ e))
 
-    pub place_here : (p : ℕ) → op_at t (i - 1) ≡ 45 → place_at t (i - 1) ≡ size_place_in (before t i) p
-    unfolding size_place_in
-    place_here p e = sym (ap (λ (l : List Triple). size_place_in l p) (before_last t i h) ∙ simp (size_place_in, eq-eqb _ _ e))
-
-    pub place_other : (p : ℕ) → (op_at t (i - 1) ≡ 45 → ⊥) → p ≡ size_place_in (before t i) p
-    unfolding size_place_in
-    place_other p e = sym (ap (λ (l : List Triple). size_place_in l p) (before_last t i h) ∙ simp (size_place_in, ne_eqb _ _ e))
+  pub sized_other : (op_at t j ≡ 45 → ⊥) → Sized t i p (p, 1)
+  unfolding size_in size_place_in
+  sized_other e = sym (ap (λ (l : List Triple). (size_place_in l p, size_in l)) opens ∙ simp (size_in, size_place_in, ne_eqb _ _ e))
 
 -- ---- an item's faults
 
+told_when : (b : Bool) (p : ℕ) → then_some b p ≡ place_told (earliest (when b p))
+unfolding when earliest place_told
+told_when true p = refl
+told_when false p = refl
+
 module _ (ps : List ℕ) (r : Room) (t : List ℕ) (i : ℕ) where
-  pub item_told : {b c : Bool} {o p : Place} {z q : ℕ} → b ≡ full_for r (op_at t i) (value_at t i) → o ≡ place_told (earliest (when b (place_at t i)))
-      → z ≡ size_in (before t i) → q ≡ size_place_in (before t i) (place_at t i) → c ≡ bad_size r.cells (op_at t i) z → p ≡ place_told (earliest (when c q))
+  pub item_told : {b c : Bool} {o p : Place} {s : ℕ × ℕ} → b ≡ full_for r (op_at t i) (value_at t i) → o ≡ then_some b (place_at t i)
+      → Sized t i (place_at t i) s → c ≡ bad_size r.cells (op_at t i) s.1 → p ≡ then_some c s.0
       → {l m : ℕ} → l ≡ last_limit (op_at t i) (value_at t i) → m ≡ other_limit (op_at t i) (value_at t i) → {h : Place} → h ≡ place_told (earliest (held_in ps (before t i) l m))
       → {x y : Place} → x ≡ both_of p h → y ≡ both_of o x → y ≡ place_told (earliest (faults_of ps r t i))
   unfolding item_faults
-  item_told {b} {c} {o} {p} {z} {q} e1 e2 e3 e4 e5 e6 {l} {m} e7 e8 {h} e9 {x} e10 e11 =
-      e11 ∙ ap₂ both_of (e2 ∙ ap (λ (b : Bool). place_told (earliest (when b (place_at t i)))) e1)
-      (e10 ∙ ap₂ both_of (e6 ∙ ap₂ (λ (c : Bool) (q : ℕ). place_told (earliest (when c q))) (e5 ∙ ap (bad_size r.cells (op_at t i)) e3) e4) (e9 ∙ ap₂ (λ (l m : ℕ). place_told (earliest (held_in ps (before t i) l m))) e7 e8) ∙ both_told _ _)
+  item_told {b} {c} {s = s} e1 e2 e3 e4 e5 e6 e7 e8 e9 e10 =
+      e10 ∙ ap₂ both_of (e2 ∙ told_when b _ ∙ ap (λ (b : Bool). place_told (earliest (when b (place_at t i)))) e1)
+      (e9 ∙ ap₂ both_of (e5 ∙ told_when c _ ∙ ap₂ (λ (c : Bool) (q : ℕ). place_told (earliest (when c q))) (e4 ∙ ap (λ (s : ℕ × ℕ). bad_size r.cells (op_at t i) s.1) e3) (ap (λ (s : ℕ × ℕ). s.0) e3)) (e8 ∙ ap₂ (λ (l m : ℕ). place_told (earliest (held_in ps (before t i) l m))) e6 e7) ∙ both_told _ _)
       ∙ both_told _ _
 
 -- ---- the walk

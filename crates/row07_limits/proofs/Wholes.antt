@@ -4,7 +4,6 @@ use mathlib.Core.Bool.{Bool, true, false}
 use mathlib.Core.List.{List, [], ◌∷◌}
 use Prim.Native.Nat.{ℕ, suc, ◌+◌, ◌-◌}
 use native.Mathlib.Omega.{arith}
-use lib.Dec.{eqb}
 use borrow.Author.Tests.{ne_eqb}
 use Rattle.language.specs.Tree.{Ty, number, environment, port, plus, minus, log, ceil, floor, most, entry, within, Breadth, bits, Amount, given, value}
 use Rattle.language.specs.Tree.{Expr, plain, sized, copies, read, cell, bit, range, inside, joined, beside, unary, binary, choice, either, select, arm, default}
@@ -12,6 +11,10 @@ use Rattle.language.specs.Words.{bytes}
 use Rattle.language.specs.Parts.{type_start, breadth_start, start}
 use Rattle.language.specs.Counts.{type_words, breadth_words, amount_words, expr_words}
 use Rattle.tape.specs.Tape.{NUMBER, ENVIRONMENT, PORT, PLUS, MINUS, LOG, CEIL, FLOOR, MOST, ENTRY, WITHIN, BITS, TYPED, GIVEN, VALUE, PLAIN, COPIES, READ, CELL, BIT, RANGE, INSIDE, JOINED, BESIDE, UNARY, BINARY, CHOICE, EITHER, SELECT, SELECTED, ARM, DEFAULT, SIZE, unary_number, binary_number}
+use Rattle.std.specs.Prelude.{Some, None}
+use Rattle.std.specs.Option.{unwrap_or}
+use Rattle.std.proofs.Math.Bool.{false-and, and-false}
+use Rattle.words.specs.Found.{Place}
 use Rattle.part_lengths.specs.declared.Part.{Part}
 use Rattle.part_lengths.specs.Parts.{Triple, holds_table, own_table, leads_table, holds_of, own_of, leads_of, lead_in, over_of, one, back, rest}
 
@@ -62,8 +65,8 @@ onto (default p a) l = it DEFAULT p 0 (onto a l)
 
 -- ---- back over some items
 
-abbrev pub st : (wanted words start : ℕ) → Bool → Part
-st k w p f = record { wanted = k; words = w; start = p; found = f }
+abbrev pub st : (wanted words : ℕ) → Place → Part
+st k w q = record { wanted = k; words = w; start = q }
 
 pub record Passes (s : Part) (l : List Triple) (s' : Part) (l' : List Triple) : Type 0 where
   pub on : back s l ≡ back s' l'
@@ -73,26 +76,22 @@ goes : {s s' s'' : Part} {l l' l'' : List Triple} → Passes s l s' l' → Passe
 goes p q = record { on = p.on ∙ q.on; off = p.off ∙ q.off }
 
 -- the same in other numbers
-counted : {s : Part} {l l' : List Triple} {k k' w w' p : ℕ} {f : Bool} → k ≡ k' → w ≡ w' → Passes s l (st k w p f) l' → Passes s l (st k' w' p f) l'
-counted {l' = l'} {p = p} {f = f} d e r = record { on = r.on ∙ ap₂ (λ (k w : ℕ). back (st k w p f) l') d e; off = r.off ∙ ap₂ (λ (k w : ℕ). rest (st k w p f) l') d e }
+counted : {s : Part} {l l' : List Triple} {k k' w w' : ℕ} {q : Place} → k ≡ k' → w ≡ w' → Passes s l (st k w q) l' → Passes s l (st k' w' q) l'
+counted {l' = l'} {q = q} d e r = record { on = r.on ∙ ap₂ (λ (k w : ℕ). back (st k w q) l') d e; off = r.off ∙ ap₂ (λ (k w : ℕ). rest (st k w q) l') d e }
 
 -- no first word is met: it is found, or more than one part is wanted
-pub data Quiet : ℕ → Bool → Type 0 where
-  found : {k : ℕ} → Quiet k true
-  deep : {k : ℕ} {f : Bool} → Quiet (suc k) f
+pub data Quiet : ℕ → Place → Type 0 where
+  found : {k p : ℕ} → Quiet k (Some p)
+  deep : {k : ℕ} {q : Place} → Quiet (suc k) q
 
 lead_deep : (p : Part) (o : ℕ) → (p.wanted ≡ 1 → ⊥) → lead_in p o ≡ false
 unfolding lead_in
-lead_deep p o n = go p.found
-  where
-    go : (b : Bool) → elim b as (λ (x : Bool). Bool) [ true ↦ false | false ↦ elim (eqb p.wanted 1) as (λ (x : Bool). Bool) [ true ↦ leads_of o | false ↦ false ] ] ≡ false
-    go true = refl
-    go false = ap (λ (c : Bool). elim c as (λ (x : Bool). Bool) [ true ↦ leads_of o | false ↦ false ]) (ne_eqb p.wanted 1 n)
+lead_deep p o n = simp (lead_in, ne_eqb p.wanted 1 n, false-and, and-false)
 
-quiet : {k : ℕ} {f : Bool} → Quiet k f → (w p o : ℕ) → lead_in (st (suc k) w p f) o ≡ false
+quiet : {k : ℕ} {q : Place} → Quiet k q → (w o : ℕ) → lead_in (st (suc k) w q) o ≡ false
 unfolding lead_in
-quiet found w p o = refl
-quiet (deep {k = k} {f = f}) w p o = lead_deep (st (suc (suc k)) w p f) o (λ e. omega arith)
+quiet found w o = refl
+quiet (deep {k = k} {q = q}) w o = lead_deep (st (suc (suc k)) w q) o (λ e. omega arith)
 
 module _ (p : Part) (n : p.wanted ≡ 0 → ⊥) (x : Triple) (l : List Triple) where
   back_more : back p (x ∷ l) ≡ back (over_of p x.op x.place) l
@@ -104,68 +103,71 @@ module _ (p : Part) (n : p.wanted ≡ 0 → ⊥) (x : Triple) (l : List Triple) 
   rest_more = simp (rest, ne_eqb _ _ n)
 
 module _ (o r v : ℕ) where
-  item_step : (k w p : ℕ) (f b : Bool) (l : List Triple) → lead_in (st (suc k) w p f) o ≡ b → Passes (st (suc k) w p f) (it o r v l) (elim b as (λ (x : Bool). Part) [ true ↦ st (suc k - 1 + holds_of o) (w + own_of o) r true | false ↦ st (suc k - 1 + holds_of o) (w + own_of o) p f ]) l
+  abbrev over_by : ℕ → ℕ → Place → Bool → Part
+  over_by k w q b = st (k + holds_of o) (w + own_of o) (elim b as (λ (x : Bool). Place) [ true ↦ Some r | false ↦ q ])
+
+  item_step : (k w : ℕ) (q : Place) (b : Bool) (l : List Triple) → lead_in (st (suc k) w q) o ≡ b → Passes (st (suc k) w q) (it o r v l) (over_by (suc k - 1) w q b) l
   unfolding over_of
-  item_step k w p f b l e = record { on = back_more (st (suc k) w p f) (λ d. omega arith) _ l ∙ ap (λ (s : Part). back s l) over; off = rest_more (st (suc k) w p f) (λ d. omega arith) _ l ∙ ap (λ (s : Part). rest s l) over }
+  item_step k w q b l e = record { on = back_more (st (suc k) w q) (λ d. omega arith) _ l ∙ ap (λ (s : Part). back s l) over; off = rest_more (st (suc k) w q) (λ d. omega arith) _ l ∙ ap (λ (s : Part). rest s l) over }
     where
-      over : over_of (st (suc k) w p f) o r ≡ elim b as (λ (x : Bool). Part) [ true ↦ st (suc k - 1 + holds_of o) (w + own_of o) r true | false ↦ st (suc k - 1 + holds_of o) (w + own_of o) p f ]
-      over = ap (λ (b : Bool). elim b as (λ (x : Bool). Part) [ true ↦ st (suc k - 1 + holds_of o) (w + own_of o) r true | false ↦ st (suc k - 1 + holds_of o) (w + own_of o) p f ]) e
+      over : over_of (st (suc k) w q) o r ≡ over_by (suc k - 1) w q b
+      over = ap (over_by (suc k - 1) w q) e
 
   module _ {h m : ℕ} (e : holds_of o ≡ h) (g : own_of o ≡ m) where
-    item_quiet : {k : ℕ} {f : Bool} (n w p : ℕ) (l : List Triple) → Quiet k f → k + h ≡ n → Passes (st (suc k) w p f) (it o r v l) (st n (w + m) p f) l
-    item_quiet {k} {f} n w p l q d = counted (omega arith) (omega arith) (item_step k w p f false l (quiet q w p o))
+    item_quiet : {k : ℕ} {q : Place} (n w : ℕ) (l : List Triple) → Quiet k q → k + h ≡ n → Passes (st (suc k) w q) (it o r v l) (st n (w + m) q) l
+    item_quiet {k} {q} n w l z d = counted (omega arith) (omega arith) (item_step k w q false l (quiet z w o))
 
-    item_leads : leads_of o ≡ true → (w p : ℕ) (l : List Triple) → Passes (st 1 w p false) (it o r v l) (st h (w + m) r true) l
+    item_leads : leads_of o ≡ true → (w : ℕ) (l : List Triple) → Passes (st 1 w None) (it o r v l) (st h (w + m) (Some r)) l
     unfolding lead_in
-    item_leads q w p l = counted (omega arith) (omega arith) (item_step 0 w p false true l q)
+    item_leads b w l = counted (omega arith) (omega arith) (item_step 0 w None true l b)
 
-    item_follows : leads_of o ≡ false → (w p : ℕ) (l : List Triple) → Passes (st 1 w p false) (it o r v l) (st h (w + m) p false) l
+    item_follows : leads_of o ≡ false → (w : ℕ) (l : List Triple) → Passes (st 1 w None) (it o r v l) (st h (w + m) None) l
     unfolding lead_in
-    item_follows q w p l = counted (omega arith) (omega arith) (item_step 0 w p false false l q)
+    item_follows b w l = counted (omega arith) (omega arith) (item_step 0 w None false l b)
 
 -- going back over a part of n words whose first word is at p
 pub record Whole (on : List Triple → List Triple) (p n : ℕ) : Type 0 where
-  pub later : {k : ℕ} {f : Bool} (w q : ℕ) (l : List Triple) → Quiet k f → Passes (st (suc k) w q f) (on l) (st k (w + n) q f) l
-  pub near : (w q : ℕ) (l : List Triple) → Passes (st 1 w q false) (on l) (st 0 (w + n) p true) l
+  pub later : {k : ℕ} {q : Place} (w : ℕ) (l : List Triple) → Quiet k q → Passes (st (suc k) w q) (on l) (st k (w + n) q) l
+  pub near : (w : ℕ) (l : List Triple) → Passes (st 1 w None) (on l) (st 0 (w + n) (Some p)) l
 
 -- ---- an item over the parts that it holds
 
 module _ (o r v : ℕ) {m : ℕ} (g : own_of o ≡ m) where
   none : holds_of o ≡ 0 → leads_of o ≡ true → {n : ℕ} → m ≡ n → Whole (it o r v) r n
-  none e b d = record { later = λ w q l z. counted (omega arith) (omega arith) (item_quiet o r v e g _ w q l z refl); near = λ w q l. counted refl (omega arith) (item_leads o r v e g b w q l) }
+  none e b d = record { later = λ w l z. counted (omega arith) (omega arith) (item_quiet o r v e g _ w l z refl); near = λ w l. counted refl (omega arith) (item_leads o r v e g b w l) }
 
   module _ (e : holds_of o ≡ 1) {on : List Triple → List Triple} {p a : ℕ} (x : Whole on p a) {n : ℕ} (d : m + a ≡ n) where
-    one_later : {k : ℕ} {f : Bool} (w q : ℕ) (l : List Triple) → Quiet k f → Passes (st (suc k) w q f) (it o r v (on l)) (st k (w + n) q f) l
-    one_later {k} w q l z = goes (item_quiet o r v e g (suc k) w q (on l) z (omega arith)) (counted refl (omega arith) (x.later (w + m) q l z))
+    one_later : {k : ℕ} {q : Place} (w : ℕ) (l : List Triple) → Quiet k q → Passes (st (suc k) w q) (it o r v (on l)) (st k (w + n) q) l
+    one_later {k} w l z = goes (item_quiet o r v e g (suc k) w (on l) z (omega arith)) (counted refl (omega arith) (x.later (w + m) l z))
 
     leads_one : leads_of o ≡ true → Whole (λ l. it o r v (on l)) r n
-    leads_one b = record { later = one_later; near = λ w q l. goes (item_leads o r v e g b w q (on l)) (counted refl (omega arith) (x.later (w + m) r l found)) }
+    leads_one b = record { later = one_later; near = λ w l. goes (item_leads o r v e g b w (on l)) (counted refl (omega arith) (x.later (w + m) l found)) }
 
     follows_one : leads_of o ≡ false → Whole (λ l. it o r v (on l)) p n
-    follows_one b = record { later = one_later; near = λ w q l. goes (item_follows o r v e g b w q (on l)) (counted refl (omega arith) (x.near (w + m) q l)) }
+    follows_one b = record { later = one_later; near = λ w l. goes (item_follows o r v e g b w (on l)) (counted refl (omega arith) (x.near (w + m) l)) }
 
   module _ (e : holds_of o ≡ 2) {on on' : List Triple → List Triple} {p a p' a' : ℕ} (x : Whole on p a) (y : Whole on' p' a') {n : ℕ} (d : m + a' + a ≡ n) where
-    two_later : {k : ℕ} {f : Bool} (w q : ℕ) (l : List Triple) → Quiet k f → Passes (st (suc k) w q f) (it o r v (on' (on l))) (st k (w + n) q f) l
-    two_later {k} w q l z = goes (item_quiet o r v e g (suc (suc k)) w q _ z (omega arith)) (goes (y.later (w + m) q (on l) deep) (counted refl (omega arith) (x.later (w + m + a') q l z)))
+    two_later : {k : ℕ} {q : Place} (w : ℕ) (l : List Triple) → Quiet k q → Passes (st (suc k) w q) (it o r v (on' (on l))) (st k (w + n) q) l
+    two_later {k} w l z = goes (item_quiet o r v e g (suc (suc k)) w _ z (omega arith)) (goes (y.later (w + m) (on l) deep) (counted refl (omega arith) (x.later (w + m + a') l z)))
 
     leads_two : leads_of o ≡ true → Whole (λ l. it o r v (on' (on l))) r n
-    leads_two b = record { later = two_later; near = λ w q l. goes (item_leads o r v e g b w q _) (goes (y.later (w + m) r (on l) found) (counted refl (omega arith) (x.later (w + m + a') r l found))) }
+    leads_two b = record { later = two_later; near = λ w l. goes (item_leads o r v e g b w _) (goes (y.later (w + m) (on l) found) (counted refl (omega arith) (x.later (w + m + a') l found))) }
 
     follows_two : leads_of o ≡ false → Whole (λ l. it o r v (on' (on l))) p n
-    follows_two b = record { later = two_later; near = λ w q l. goes (item_follows o r v e g b w q _) (goes (y.later (w + m) q (on l) deep) (counted refl (omega arith) (x.near (w + m + a') q l))) }
+    follows_two b = record { later = two_later; near = λ w l. goes (item_follows o r v e g b w _) (goes (y.later (w + m) (on l) deep) (counted refl (omega arith) (x.near (w + m + a') l))) }
 
   module _ (e : holds_of o ≡ 3) {on on' on'' : List Triple → List Triple} {p a p' a' p'' a'' : ℕ} (x : Whole on p a) (y : Whole on' p' a') (z : Whole on'' p'' a'') {n : ℕ} (d : m + a'' + a' + a ≡ n) where
-    three_later : {k : ℕ} {f : Bool} (w q : ℕ) (l : List Triple) → Quiet k f → Passes (st (suc k) w q f) (it o r v (on'' (on' (on l)))) (st k (w + n) q f) l
-    three_later {k} w q l u =
-        goes (item_quiet o r v e g (suc (suc (suc k))) w q _ u (omega arith)) (goes (z.later (w + m) q _ deep) (goes (y.later (w + m + a'') q (on l) deep) (counted refl (omega arith) (x.later (w + m + a'' + a') q l u))))
+    three_later : {k : ℕ} {q : Place} (w : ℕ) (l : List Triple) → Quiet k q → Passes (st (suc k) w q) (it o r v (on'' (on' (on l)))) (st k (w + n) q) l
+    three_later {k} w l u =
+        goes (item_quiet o r v e g (suc (suc (suc k))) w _ u (omega arith)) (goes (z.later (w + m) _ deep) (goes (y.later (w + m + a'') (on l) deep) (counted refl (omega arith) (x.later (w + m + a'' + a') l u))))
 
     leads_three : leads_of o ≡ true → Whole (λ l. it o r v (on'' (on' (on l)))) r n
     leads_three b =
-        record { later = three_later; near = λ w q l. goes (item_leads o r v e g b w q _) (goes (z.later (w + m) r _ found) (goes (y.later (w + m + a'') r (on l) found) (counted refl (omega arith) (x.later (w + m + a'' + a') r l found)))) }
+        record { later = three_later; near = λ w l. goes (item_leads o r v e g b w _) (goes (z.later (w + m) _ found) (goes (y.later (w + m + a'') (on l) found) (counted refl (omega arith) (x.later (w + m + a'' + a') l found)))) }
 
     follows_three : leads_of o ≡ false → Whole (λ l. it o r v (on'' (on' (on l)))) p n
     follows_three b =
-        record { later = three_later; near = λ w q l. goes (item_follows o r v e g b w q _) (goes (z.later (w + m) q _ deep) (goes (y.later (w + m + a'') q (on l) deep) (counted refl (omega arith) (x.near (w + m + a'' + a') q l)))) }
+        record { later = three_later; near = λ w l. goes (item_follows o r v e g b w _) (goes (z.later (w + m) _ deep) (goes (y.later (w + m + a'') (on l) deep) (counted refl (omega arith) (x.near (w + m + a'' + a') l)))) }
 
 -- ---- types and expressions
 
@@ -220,25 +222,25 @@ size_whole p v x = follows_one SIZE _ _ refl refl x (omega arith) refl
 
 -- ---- the part before an item, and what stands before it
 
-back_ends : (w p : ℕ) (l : List Triple) → back (st 0 w p true) l ≡ st 0 w p true
+back_ends : (w p : ℕ) (l : List Triple) → back (st 0 w (Some p)) l ≡ st 0 w (Some p)
 unfolding back
 back_ends w p [] = refl
 back_ends w p (x ∷ l) = refl
 
-rest_ends : (w p : ℕ) (l : List Triple) → rest (st 0 w p true) l ≡ l
+rest_ends : (w p : ℕ) (l : List Triple) → rest (st 0 w (Some p)) l ≡ l
 unfolding rest
 rest_ends w p [] = refl
 rest_ends w p (x ∷ l) = refl
 
 module _ {on : List Triple → List Triple} {p n : ℕ} (x : Whole on p n) (l : List Triple) where
-  whole_back : back one (on l) ≡ st 0 (0 + n) p true
-  whole_back = (x.near 0 0 l).on ∙ back_ends (0 + n) p l
+  whole_back : back one (on l) ≡ st 0 (0 + n) (Some p)
+  whole_back = (x.near 0 l).on ∙ back_ends (0 + n) p l
 
   pub whole_words : (back one (on l)).words ≡ n
   whole_words = ap (λ (s : Part). s.words) whole_back ∙ omega arith
 
-  pub whole_start : (back one (on l)).start ≡ p
-  whole_start = ap (λ (s : Part). s.start) whole_back
+  pub whole_start : unwrap_or (back one (on l)).start 0 ≡ p
+  whole_start = ap (λ (s : Part). unwrap_or s.start 0) whole_back
 
   pub whole_rest : rest one (on l) ≡ l
-  whole_rest = (x.near 0 0 l).off ∙ rest_ends (0 + n) p l
+  whole_rest = (x.near 0 l).off ∙ rest_ends (0 + n) p l

@@ -1,7 +1,7 @@
 // One item of the tape: what it takes of the room that is left, and its faults.
-ghost use Rattle.std.specs.Prelude.{◌≡◌, ◌+◌, ◌*◌, ◌≤◌, ◌<◌, length};
+ghost use Rattle.std.specs.Prelude.{◌≡◌, ℕ, ◌+◌, ◌*◌, ◌≤◌, ◌<◌, length};
+ghost use Rattle.std.specs.Option.{unwrap_or};
 ghost use Rattle.language.specs.Text.{earliest};
-ghost use Rattle.language.specs.Names.{when};
 ghost use Rattle.words.specs.Found.{place_told};
 ghost use Rattle.part_lengths.specs.Parts.{before, places_in};
 ghost use Rattle.row07_limits.specs.Walk.{left_of, again_of, size_in, size_place_in, full_for, bad_size, in_type, last_limit, other_limit, next_room, faults_of};
@@ -18,19 +18,15 @@ const IN_TYPE: u32 = language::Type::WORDS;
 const IN_WHOLE: u32 = language::Expression::WORDS;
 
 // What is left where so much is taken.
+#[tactic(auto, unfolding(crate::specs::Walk::left_of))]
 fn left(takes: bool, room: u32, n: u32) -> u32
     ensures { result ≡ left_of takes room n }
 {
-    if takes {
-        if room < n {
-            return 0;
-        }
-        return room - n;
-    }
-    room
+    if takes { room.saturating_sub(n) } else { room }
 }
 
 // Where a rule ends the room for `val`s is whole again.
+#[tactic(auto, unfolding(crate::specs::Walk::again_of))]
 fn again(ends: bool, room: u32) -> u32
     ensures { result ≡ again_of ends room }
 {
@@ -38,6 +34,7 @@ fn again(ends: bool, room: u32) -> u32
 }
 
 // The room after an item; a memory takes as many cells as the size before it.
+#[tactic(auto, unfolding(crate::specs::Walk::next_room))]
 pub fn next(room: Room, op: u32, size: u32) -> Room
     ensures { result ≡ next_room room op size }
 {
@@ -51,37 +48,21 @@ pub fn next(room: Room, op: u32, size: u32) -> Room
     }
 }
 
-// The size that stands before item i: 1 where there is none.
-pub fn size(tape: &[u32], i: usize) -> u32
+// The place and the value of the size that stands before item i, if one does.
+pub fn size_before(tape: &[u32], i: usize) -> Option<(u32, u32)>
     requires { 3 * i ≤ length tape.now }
-    ensures { result ≡ size_in (before tape.now i) }
+    ensures { (p : ℕ) → unwrap_or result (p, 1) ≡ (size_place_in (before tape.now i) p, size_in (before tape.now i)) }
 {
-    if i == 0 {
-        return 1;
-    }
-    let j = i - 1;
+    let j = i.checked_sub(1)?;
     if tape[3 * j] == SIZE {
-        return tape[3 * j + 2];
+        Some((tape[3 * j + 1], tape[3 * j + 2]))
+    } else {
+        None
     }
-    1
-}
-
-// The place of that size, or another.
-fn size_place(tape: &[u32], i: usize, other: u32) -> u32
-    requires { 3 * i ≤ length tape.now }
-    ensures { result ≡ size_place_in (before tape.now i) other }
-{
-    if i == 0 {
-        return other;
-    }
-    let j = i - 1;
-    if tape[3 * j] == SIZE {
-        return tape[3 * j + 1];
-    }
-    other
 }
 
 // Whether an item is one too many, or a number of copies too big.
+#[tactic(auto, unfolding(crate::specs::Walk::full_for))]
 fn full(room: Room, op: u32, value: u32) -> bool
     ensures { result ≡ full_for room op value }
 {
@@ -97,22 +78,15 @@ fn full(room: Room, op: u32, value: u32) -> bool
 }
 
 // Whether a memory's size is none or passes its limit or the cells that are left.
+#[tactic(auto, unfolding(crate::specs::Walk::bad_size))]
 fn bad_size(cells: u32, op: u32, size: u32) -> bool
     ensures { result ≡ bad_size cells op size }
 {
-    if op != MEMORY {
-        return false;
-    }
-    if size == 0 {
-        return true;
-    }
-    if language::Plan::SIZE < size {
-        return true;
-    }
-    cells < size
+    op == MEMORY && (size == 0 || language::Plan::SIZE < size || cells < size)
 }
 
 // The limit of a type's words, where there is a type.
+#[tactic(auto, unfolding(crate::specs::Walk::in_type))]
 fn in_type(typed: bool) -> u32
     ensures { result ≡ in_type typed }
 {
@@ -120,16 +94,13 @@ fn in_type(typed: bool) -> u32
 }
 
 // The limit of the words of the part before an item, and of the one before that; 0 where it holds none.
+#[tactic(auto, unfolding(crate::specs::Walk::last_limit))]
 fn last_limit(op: u32, value: u32) -> u32
     ensures { result ≡ last_limit op value }
 {
     match op {
-        TYPED => IN_TYPE,
-        BIT => IN_TYPE,
-        RANGE => IN_TYPE,
-        ASSIGN => IN_WHOLE,
-        WRITE => IN_WHOLE,
-        VAL => IN_WHOLE,
+        TYPED | BIT | RANGE => IN_TYPE,
+        ASSIGN | WRITE | VAL => IN_WHOLE,
         // a port's value tells besides whether it is an input
         DECLARED => in_type(value % 2 == 1),
         MEMORY => in_type(value == 1),
@@ -137,6 +108,7 @@ fn last_limit(op: u32, value: u32) -> u32
     }
 }
 
+#[tactic(auto, unfolding(crate::specs::Walk::other_limit))]
 fn other_limit(op: u32, value: u32) -> u32
     ensures { result ≡ other_limit op value }
 {
@@ -148,17 +120,6 @@ fn other_limit(op: u32, value: u32) -> u32
     }
 }
 
-// A place, where it is at fault.
-fn at(faulty: bool, place: u32) -> Option<u32>
-    ensures { result ≡ place_told (earliest (when faulty place)) }
-{
-    if faulty {
-        Some(place)
-    } else {
-        None
-    }
-}
-
 // The earliest fault of item i.
 pub fn item_fault(table: &[u32], many: usize, tape: &[u32], room: Room, i: usize) -> Option<u32>
     requires { (4 * many ≤ length table.now) × (3 * i + 2 < length tape.now) }
@@ -167,11 +128,9 @@ pub fn item_fault(table: &[u32], many: usize, tape: &[u32], room: Room, i: usize
     let op = tape[3 * i];
     let place = tape[3 * i + 1];
     let value = tape[3 * i + 2];
-    let one = at(full(room, op, value), place);
-    let sized = at(
-        bad_size(room.cells, op, size(tape, i)),
-        size_place(tape, i, place),
-    );
+    let one = full(room, op, value).then_some(place);
+    let (size_place, size) = size_before(tape, i).unwrap_or((place, 1));
+    let sized = bad_size(room.cells, op, size).then_some(size_place);
     let long = held(
         table,
         many,

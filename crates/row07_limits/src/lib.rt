@@ -16,7 +16,7 @@ ghost use Rattle.tape.specs.Row.{Tells};
 ghost use Rattle.part_lengths.specs.Parts.{places_in};
 ghost use Rattle.row07_limits.specs.Walk.{faults_at};
 
-use items::{item_fault, next, size};
+use items::{item_fault, next, size_before};
 use part_lengths::both;
 
 // Four numbers for each word, of which a text has at most one to a byte.
@@ -47,12 +47,10 @@ fn walk(table: &[u32], many: usize, tape: &[u32], items: usize) -> Option<u32>
         rules: language::Plan::RULES,
         vals: language::Plan::VALS,
     };
-    let mut i = 0;
-    while i < items {
-        let here = item_fault(table, many, tape, room, i);
-        first = both(here, first);
-        room = next(room, tape[3 * i], size(tape, i));
-        i += 1;
+    for i in 0..items {
+        first = both(item_fault(table, many, tape, room, i), first);
+        let (_, size) = size_before(tape, i).unwrap_or((0, 1));
+        room = next(room, tape[3 * i], size);
     }
     first
 }

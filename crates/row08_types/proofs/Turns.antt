@@ -1,5 +1,5 @@
 -- What the last arm of a `match` knows of a node, how far the counts grow with an item, and the turns of the two scans. Assumes nothing.
-use mathlib.Core.Path.{◌≡◌, refl, sym, ap, ◌∙◌}
+use mathlib.Core.Path.{◌≡◌, refl, sym, ap, ap₂, ◌∙◌}
 use mathlib.Core.Bool.{Bool, true, false, not, ◌||◌}
 use mathlib.Core.List.{List, [], ◌∷◌}
 use Prim.Native.Nat.{ℕ, zero, suc, ◌+◌, ◌-◌, ◌*◌, ◌/◌, ◌≤◌, ◌<◌}
@@ -35,33 +35,7 @@ in_types_law Most _ = refl
 in_types_law Within _ = refl
 in_types_law Other h0 = absurd (h0 refl)
 
-pub not_outer_law : (s : Around) (k : Node) → (k ≡ Join → ⊥) → (k ≡ Minus → ⊥) → (k ≡ Log → ⊥) → (k ≡ Whole → ⊥) → (k ≡ Most → ⊥) → s ≡ outer_of s k
-unfolding outer_of
-not_outer_law s Number _ _ _ _ _ = refl
-not_outer_law s Name _ _ _ _ _ = refl
-not_outer_law s Port _ _ _ _ _ = refl
-not_outer_law s Join h0 _ _ _ _ = absurd (h0 refl)
-not_outer_law s Minus _ h1 _ _ _ = absurd (h1 refl)
-not_outer_law s Log _ _ h2 _ _ = absurd (h2 refl)
-not_outer_law s Whole _ _ _ h3 _ = absurd (h3 refl)
-not_outer_law s Most _ _ _ _ h4 = absurd (h4 refl)
-not_outer_law s Within _ _ _ _ _ = refl
-not_outer_law s Other _ _ _ _ _ = refl
-
-pub not_joined_law : (n : ℕ) (k : Node) → (k ≡ Number → ⊥) → (k ≡ Name → ⊥) → (k ≡ Port → ⊥) → (k ≡ Join → ⊥) → (k ≡ Minus → ⊥) → (n ≡ waiting_of n k) × (n ≡ coming_of n k)
-unfolding waiting_of coming_of
-not_joined_law n Number h0 _ _ _ _ = absurd (h0 refl)
-not_joined_law n Name _ h1 _ _ _ = absurd (h1 refl)
-not_joined_law n Port _ _ h2 _ _ = absurd (h2 refl)
-not_joined_law n Join _ _ _ h3 _ = absurd (h3 refl)
-not_joined_law n Minus _ _ _ _ h4 = absurd (h4 refl)
-not_joined_law n Log _ _ _ _ _ = (refl, refl)
-not_joined_law n Whole _ _ _ _ _ = (refl, refl)
-not_joined_law n Most _ _ _ _ _ = (refl, refl)
-not_joined_law n Within _ _ _ _ _ = (refl, refl)
-not_joined_law n Other _ _ _ _ _ = (refl, refl)
-
-pub not_counted_law : (s : Count) (k : Node) → (k ≡ Log → ⊥) → (k ≡ Whole → ⊥) → tally 0 (coming_of s.need k) s.logs ≡ count_in s k
+not_counted_law : (s : Count) (k : Node) → (k ≡ Log → ⊥) → (k ≡ Whole → ⊥) → tally 0 (coming_of s.need k) s.logs ≡ count_in s k
 unfolding coming_of count_in
 not_counted_law s Number _ _ = refl
 not_counted_law s Name _ _ = refl
@@ -162,17 +136,24 @@ module _ (s : Count) (k : Node) where
   unfolding counted_of
   counted_aside h {a} e = (ap (λ (n : ℕ). tally n s.need s.logs) e ∙ sym (ap (λ (b : Bool). elim b as (λ (x : Bool). Count) [ true ↦ count_in s k | false ↦ tally (coming_of s.aside k) s.need s.logs ]) (zero_not s.aside (λ z. omega arith))), let m = coming_most s.aside k in omega arith)
 
-  pub counted_in : s.aside ≤ 0 → count_in s k ≡ counted_of s k
-  unfolding counted_of
-  counted_in h = let z : s.aside ≡ 0 = omega arith in sym (ap (λ (b : Bool). elim b as (λ (x : Bool). Count) [ true ↦ count_in s k | false ↦ tally (coming_of s.aside k) s.need s.logs ]) (zero_is z))
+  module _ (h : s.aside ≤ 0) where
+    here_none : s.aside ≡ 0
+    here_none = omega arith
 
-  pub counted_log : s.aside ≤ 0 → k ≡ Log → tally 0 s.need (s.logs + 1) ≡ counted_of s k
-  unfolding count_in
-  counted_log h e = sym (ap (count_in s) e) ∙ counted_in h
+    counted_in : count_in s k ≡ counted_of s k
+    unfolding counted_of
+    counted_in = sym (ap (λ (b : Bool). elim b as (λ (x : Bool). Count) [ true ↦ count_in s k | false ↦ tally (coming_of s.aside k) s.need s.logs ]) (zero_is here_none))
 
-  pub counted_whole : s.aside ≤ 0 → k ≡ Whole → {n : ℕ} → n ≡ s.need - 1 → tally 1 n s.logs ≡ counted_of s k
-  unfolding count_in
-  counted_whole h e f = ap (λ (n : ℕ). tally 1 n s.logs) f ∙ sym (ap (count_in s) e) ∙ counted_in h
+    pub counted_log : k ≡ Log → tally s.aside s.need (s.logs + 1) ≡ counted_of s k
+    unfolding count_in
+    counted_log e = ap (λ (a : ℕ). tally a s.need (s.logs + 1)) here_none ∙ sym (ap (count_in s) e) ∙ counted_in
+
+    pub counted_whole : k ≡ Whole → {n : ℕ} → n ≡ s.need - 1 → tally 1 n s.logs ≡ counted_of s k
+    unfolding count_in
+    counted_whole e f = ap (λ (n : ℕ). tally 1 n s.logs) f ∙ sym (ap (count_in s) e) ∙ counted_in
+
+    pub counted_other : (k ≡ Log → ⊥) → (k ≡ Whole → ⊥) → {n : ℕ} → n ≡ coming_of s.need k → tally s.aside n s.logs ≡ counted_of s k
+    counted_other l w f = ap₂ (λ (a n : ℕ). tally a n s.logs) here_none f ∙ not_counted_law s k l w ∙ counted_in
 
 -- ---- the turns of the scans
 

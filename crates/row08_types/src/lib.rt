@@ -9,12 +9,11 @@ ghost use Rattle.language.specs.Words.{Word};
 ghost use Rattle.language.specs.Tree.{Actor};
 ghost use Rattle.language.specs.Parts.{each, actor_items, types};
 ghost use Rattle.language.specs.Types.{type_faults};
-ghost use Rattle.tape.specs.Tape.{one_if};
 ghost use Rattle.words.specs.Found.{place_told};
 ghost use Rattle.tape.specs.Row.{Tells};
-ghost use Rattle.row08_types.specs.Walk.{is_type, place, outer_of, outward_of, waiting_of, coming_of, seen_from, bare, counted_of, is_done, logs_over, passing, nodes_before, log_faulty, faulty};
+ghost use Rattle.row08_types.specs.Walk.{outer_of, outward_of, waiting_of, coming_of, seen_from, bare, counted_of, is_done, logs_over, passing, nodes_before, log_faulty, faulty};
 
-use tape::{Node, either, node_of};
+use tape::{Node, node_of};
 
 // The operations of the items of types.
 const LIMIT: u32 = language::Type::NUMBER;
@@ -47,94 +46,68 @@ struct Count {
     logs: usize,
 }
 
-fn is_type(k: Node) -> bool
-    ensures { result ≡ is_type k }
-{
-    match k {
-        Node::Other => false,
-        _ => true,
-    }
-}
-
-// One more type before it, where it stands together with that.
-fn joined(near: bool, lefts: usize) -> usize
-    requires { lefts < 18446744073709551615 }
-    ensures { result ≡ lefts + one_if near }
-{
-    if near { lefts + 1 } else { lefts }
-}
-
-fn stands(low: bool, after: bool, in_log: bool, lefts: usize, near: bool) -> Around
-    ensures { result ≡ place low after in_log lefts near }
-{
-    Around {
-        low,
-        after,
-        in_log,
-        lefts,
-        near,
-    }
-}
-
 // What the item that holds a type says of its place; where it joins two, the type is the second.
+#[tactic(auto, unfolding(crate::specs::Walk::outer_of, tape::specs::Tape::one_if))]
 fn outer(s: Around, k: Node) -> Around
     requires { s.lefts < 18446744073709551615 }
     ensures { result ≡ outer_of s k }
 {
+    let lefts = s.lefts + usize::from(s.near);
     match k {
-        Node::Join => stands(s.low, s.after, s.in_log, joined(s.near, s.lefts), s.near),
-        Node::Minus => stands(true, true, s.in_log, joined(s.near, s.lefts), s.near),
-        Node::Log => stands(true, s.after, either(s.in_log, s.near), s.lefts, s.near),
-        Node::Whole => stands(true, s.after, s.in_log, s.lefts, false),
-        Node::Most => stands(true, s.after, s.in_log, s.lefts, s.near),
+        Node::Join => Around { lefts, ..s },
+        Node::Minus => Around {
+            low: true,
+            after: true,
+            lefts,
+            ..s
+        },
+        Node::Log => Around {
+            low: true,
+            in_log: s.in_log || s.near,
+            ..s
+        },
+        Node::Whole => Around {
+            low: true,
+            near: false,
+            ..s
+        },
+        Node::Most => Around { low: true, ..s },
         _ => s,
     }
 }
 
 // How many types wait after one more item, read forward; read back, how many are still to come.
+#[tactic(auto, unfolding(crate::specs::Walk::waiting_of))]
 fn waiting(n: usize, k: Node) -> usize
     requires { n < 18446744073709551615 }
     ensures { result ≡ waiting_of n k }
 {
     match k {
-        Node::Number => n + 1,
-        Node::Name => n + 1,
-        Node::Port => n + 1,
-        Node::Join => less(n),
-        Node::Minus => less(n),
+        Node::Number | Node::Name | Node::Port => n + 1,
+        Node::Join | Node::Minus => n.saturating_sub(1),
         _ => n,
     }
 }
 
+#[tactic(auto, unfolding(crate::specs::Walk::coming_of))]
 fn coming(n: usize, k: Node) -> usize
     requires { n < 18446744073709551615 }
     ensures { result ≡ coming_of n k }
 {
     match k {
-        Node::Number => less(n),
-        Node::Name => less(n),
-        Node::Port => less(n),
-        Node::Join => n + 1,
-        Node::Minus => n + 1,
+        Node::Number | Node::Name | Node::Port => n.saturating_sub(1),
+        Node::Join | Node::Minus => n + 1,
         _ => n,
     }
 }
 
-fn less(n: usize) -> usize
-    ensures { result ≡ n - 1 }
-{
-    if n == 0 { 0 } else { n - 1 }
-}
-
 // What one more item after a type says of its place, where so many types between them wait.
+#[tactic(auto, using(crate::proofs::Turns::zero_is, crate::proofs::Turns::zero_not), unfolding(crate::specs::Walk::outward_of))]
 fn outward(n: usize, s: Around, k: Node) -> Around
     requires { s.lefts < 18446744073709551615 }
     ensures { result ≡ outward_of n s k }
 {
-    if n == 0 {
-        return outer(s, k);
-    }
-    s
+    if n == 0 { outer(s, k) } else { s }
 }
 
 // What the items from one on say of the place of the type before them.
@@ -142,17 +115,21 @@ fn seen_around(tape: &[u32], n: usize, from: usize) -> Around
     requires { (n ≤ length tape.now) × (from ≤ n / 3) }
     ensures { (result ≡ seen_from 0 bare (drop (3 * from) (take n tape.now))) × (result.lefts ≤ n / 3) }
 {
-    let mut s = stands(false, false, false, 0, true);
+    let mut s = Around {
+        low: false,
+        after: false,
+        in_log: false,
+        lefts: 0,
+        near: true,
+    };
     let mut waits = 0;
-    let mut i = from;
-    while i < n / 3 {
+    for i in from..n / 3 {
         let k = node_of(tape[3 * i]);
-        if !is_type(k) {
+        if matches!(k, Node::Other) {
             return s;
         }
         s = outward(waits, s, k);
         waits = waiting(waits, k);
-        i += 1;
     }
     s
 }
@@ -165,37 +142,32 @@ fn counted(s: Count, k: Node) -> Count
     if 0 < s.aside {
         return Count {
             aside: coming(s.aside, k),
-            need: s.need,
-            logs: s.logs,
+            ..s
         };
     }
     match k {
         Node::Log => Count {
-            aside: 0,
-            need: s.need,
             logs: s.logs + 1,
+            ..s
         },
         Node::Whole => Count {
             aside: 1,
-            need: less(s.need),
-            logs: s.logs,
+            need: s.need.saturating_sub(1),
+            ..s
         },
         _ => Count {
-            aside: 0,
             need: coming(s.need, k),
-            logs: s.logs,
+            ..s
         },
     }
 }
 
 // Whether no type is to come.
+#[tactic(auto, using(crate::proofs::Turns::zero_is, crate::proofs::Turns::zero_not, crate::proofs::Turns::zero_eqb), unfolding(crate::specs::Walk::is_done))]
 fn is_done(s: Count) -> bool
     ensures { result ≡ is_done s }
 {
-    if s.aside == 0 {
-        return s.need == 0;
-    }
-    false
+    s.aside == 0 && s.need == 0
 }
 
 // How many logs stand in so many types before the log at an item; what that log holds is passed over.
@@ -208,12 +180,10 @@ fn logs_before(tape: &[u32], at: usize, lefts: usize) -> usize
         need: lefts,
         logs: 0,
     };
-    let mut i = at;
-    while 0 < i {
+    for i in (0..at).rev() {
         if is_done(s) {
             return s.logs;
         }
-        i -= 1;
         s = counted(s, node_of(tape[3 * i]));
     }
     s.logs
@@ -225,10 +195,7 @@ fn log_at_fault(tape: &[u32], n: usize, i: usize) -> bool
     ensures { result ≡ log_faulty (nodes_before tape.now i) (seen_from 0 bare (drop (3 * (i + 1)) (take n tape.now))) }
 {
     let s = seen_around(tape, n, i + 1);
-    if s.in_log {
-        return true;
-    }
-    TOGETHER <= logs_before(tape, i, s.lefts)
+    s.in_log || TOGETHER <= logs_before(tape, i, s.lefts)
 }
 
 // Whether an item breaks a rule.
@@ -251,12 +218,10 @@ pub fn fault(tape: &[u32], n: usize) -> Option<u32>
     ensures { (text : List ℕ) (ws : List Word) (a : Actor) → Tells text tape.now n ws a → result ≡ place_told (earliest (each type_faults (types (actor_items a)))) }
 {
     let mut first = None;
-    let mut i = 0;
-    while i < n / 3 {
+    for i in 0..n / 3 {
         if at_fault(tape, n, i) {
             first = words::earlier(tape[3 * i + 1], first);
         }
-        i += 1;
     }
     first
 }

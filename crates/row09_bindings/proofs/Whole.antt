@@ -24,7 +24,7 @@ use Rattle.bindings.specs.declared.Lines.{Lines}
 use Rattle.row09_bindings.specs.Lines.{names_on, lines_on, Binds}
 use Rattle.row09_bindings.specs.Walk.{lacking, opens_at}
 use Rattle.row09_bindings.proofs.Tables.{names_are, widths_on, values_on}
-use Rattle.row09_bindings.proofs.Tests.{and_true}
+use Rattle.std.proofs.Math.Bool.{and-true}
 use Rattle.row09_bindings.proofs.Opens.{opened, opens}
 use Rattle.row09_bindings.proofs.Lacks.{missing_as}
 use Rattle.row09_bindings.proofs.Environs.{environs}
@@ -63,7 +63,7 @@ module _ (text t : List ℕ) (n many : ℕ) (room : n ≤ length t) (low : 3 * m
   unfolding opened unsettled missing
   opened_same =
       ap₂ (λ (x y : List ℕ). x ++ y) (each_as _ _ (λ p. ap (λ (l : List (List ℕ)). when (typeless p.type && not (among l p.called.spelled)) p.called.at) width_names ∙ port_same (spelled_of (bound_names b.widths)) (typeless p.type) p) a.ports)
-      (ap₂ (λ (x y : List ℕ). x ++ y) (each_as _ _ (λ m. ap (λ (c : Bool). when c m.called.at) (and_true (typeless m.type))) a.memories) (ap (λ (l : List (List ℕ)). each (told_of_law (lacking l)) (environment_names a)) value_names))
+      (ap₂ (λ (x y : List ℕ). x ++ y) (each_as _ _ (λ m. ap (λ (c : Bool). when c m.called.at) (and-true (typeless m.type))) a.memories) (ap (λ (l : List (List ℕ)). each (told_of_law (lacking l)) (environment_names a)) value_names))
 
   pub open_items : place_told (earliest (opens_at text t btext table lines many)) ≡ place_told (earliest (unsettled a b))
   open_items =

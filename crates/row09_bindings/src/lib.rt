@@ -14,14 +14,14 @@ ghost use Rattle.row09_bindings.specs.Walk.{no_type, open_at, opens_at};
 ghost use Rattle.row09_bindings.specs.Told.{StrangeTold, FaultsTold};
 
 use bindings::Lines;
-use tape::{Class, DECLARED, ENVIRONMENT, MEMORY, VALUE, either, said, wide};
+use tape::{Class, DECLARED, ENVIRONMENT, MEMORY, VALUE, said};
 
 // The name of a line.
 fn line_name<'a>(btext: &'a [u8], table: &[u32], i: usize) -> &'a [u8]
     requires { 3 * i + 2 < length table.now }
     ensures { result.now ≡ name_on btext.now table.now i }
 {
-    spans::part(btext, wide(table[3 * i]), wide(table[3 * i + 1]))
+    spans::part(btext, table[3 * i] as usize, table[3 * i + 1] as usize)
 }
 
 // The first line, from one on and before another, that has the name at a place of the actor's text; `to` where none has.
@@ -37,14 +37,12 @@ pub fn found(
     ensures { result ≡ from + index (names_on btext.now table.now from (to - from)) (name_from text.now place) }
 {
     let called = tape::name(text, place);
-    let mut i = from;
-    while i < to {
+    for i in from..to {
         if spelling::same_bytes(line_name(btext, table, i), called) {
             return i;
         }
-        i += 1;
     }
-    i
+    to
 }
 
 // The earliest of a place and those of the lines, from one on and before another, whose name no item of a class has.
@@ -63,9 +61,7 @@ fn strange(
     ensures { StrangeTold text.now tape.now many class btext.now table.now from to rest result }
 {
     let mut first = rest;
-    let mut i = to;
-    while from < i {
-        i -= 1;
+    for i in (from..to).rev() {
         if !said(text, tape, 0, many, class, line_name(btext, table, i)) {
             first = words::earlier(table[3 * i], first);
         }
@@ -112,45 +108,48 @@ pub fn strangers(
 }
 
 // Whether a declaration has no type: its item's value counts 1 for a type and 2 for an input.
+#[tactic(auto, unfolding(crate::specs::Walk::no_type))]
 fn typeless(value: u32) -> bool
     ensures { result ≡ no_type value }
 {
-    either(value == 0, value == 2)
+    matches!(value, 0 | 2)
 }
 
 // Whether item i names a port or memory with neither type nor binding, or an environment name without value.
+#[tactic(auto, using(crate::proofs::Tests::lacks_value, crate::proofs::Tests::lacks_width), unfolding(crate::specs::Walk::ask))]
 fn open_at(text: &[u8], tape: &[u32], btext: &[u8], table: &[u32], lines: Lines, i: usize) -> bool
     requires { (3 * i + 2 < length tape.now) × Lined lines table.now }
     ensures { result ≡ open_at text.now tape.now btext.now table.now lines i }
 {
-    let place = wide(tape[3 * i + 1]);
+    let place = tape[3 * i + 1] as usize;
     let widths = lines.widths;
     let end = widths + lines.values;
     match tape[3 * i] {
         ENVIRONMENT | VALUE => found(text, place, btext, table, widths, end) == end,
-        DECLARED => {
-            if typeless(tape[3 * i + 2]) {
-                return found(text, place, btext, table, 0, widths) == widths;
-            }
-            false
-        }
+        DECLARED => typeless(tape[3 * i + 2])
+            && found(text, place, btext, table, 0, widths) == widths,
         MEMORY => typeless(tape[3 * i + 2]),
         _ => false,
     }
 }
 
 // The earliest place of an open item among so many.
-fn walk(text: &[u8], tape: &[u32], many: usize, btext: &[u8], table: &[u32], lines: Lines) -> Option<u32>
+fn walk(
+    text: &[u8],
+    tape: &[u32],
+    many: usize,
+    btext: &[u8],
+    table: &[u32],
+    lines: Lines,
+) -> Option<u32>
     requires { (3 * many ≤ length tape.now) × Lined lines table.now }
     ensures { result ≡ place_told (earliest (opens_at text.now tape.now btext.now table.now lines many)) }
 {
     let mut first = None;
-    let mut i = 0;
-    while i < many {
+    for i in 0..many {
         if open_at(text, tape, btext, table, lines, i) {
             first = words::earlier(tape[3 * i + 1], first);
         }
-        i += 1;
     }
     first
 }

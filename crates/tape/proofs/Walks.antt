@@ -7,7 +7,7 @@ use mathlib.Core.Logic.{⊎_elim}
 use native.Mathlib.Numerals.{add-one}
 use Prim.Native.Nat.{ℕ, suc, ◌+◌, ◌-◌, ◌≤◌, ◌<◌}
 use native.Mathlib.Omega.{arith}
-use lib.Dec.{eqb}
+use borrow.Author.Tests.{eq-eqb, ne_eqb}
 use Rattle.language.specs.Text.{same, among, earliest}
 use Rattle.words.specs.Found.{place_told, earlier_of}
 use Rattle.words.specs.Found.{Place}
@@ -72,15 +72,14 @@ pub no_fault : (f : ℕ → Bool) (t : List ℕ) → None ≡ place_told (earlie
 unfolding marked earliest place_told
 no_fault f t = refl
 
--- from where on items count after one more item
-pub after_more : (o : ℕ) (t : List ℕ) (i : ℕ) {x y : ℕ} → x ≡ after o t i → y ≡ pick (eqb (op_at t i) o) (i + 1) x → y ≡ after o t (i + 1)
-unfolding after
-after_more o t i e q = rw (add-one i) (q ∙ rw (add-one i, e))
+-- from where on items count after one more item: from the next on where the item has the operation, and else as before
+pub after_here : (o : ℕ) (t : List ℕ) (i : ℕ) → op_at t i ≡ o → i + 1 ≡ after o t (i + 1)
+unfolding after pick
+after_here o t i e = rw (add-one i) (sym (simp (after, pick, eq-eqb _ _ e)))
 
-pub pick_within : (b : Bool) (i x : ℕ) {y : ℕ} → x ≤ i → y ≡ pick b (i + 1) x → y ≤ i + 1
-unfolding pick
-pick_within true i x h e = omega arith
-pick_within false i x h e = omega arith
+pub after_same : (o : ℕ) (t : List ℕ) (i : ℕ) {x : ℕ} → (op_at t i ≡ o → ⊥) → x ≡ after o t i → x ≡ after o t (i + 1)
+unfolding after pick
+after_same o t i n e = rw (add-one i) (e ∙ sym (simp (after, pick, ne_eqb _ _ n)))
 
 pub after_start : (o : ℕ) (t : List ℕ) → 0 ≡ after o t 0
 unfolding after

@@ -5,11 +5,11 @@
 
 mod numbers;
 
-ghost use Rattle.std.specs.Prelude.{◌≡◌, ◌||◌, ◌*◌, ◌≤◌, length};
+ghost use Rattle.std.specs.Prelude.{◌≡◌, ◌*◌, ◌≤◌, length};
 ghost use Rattle.language.specs.Text.{same, among};
 ghost use Rattle.placed.specs.Placed.{name_from};
 ghost use Rattle.tape.specs.Nodes.{node_of};
-ghost use Rattle.tape.specs.Walk.{hit, between, pick};
+ghost use Rattle.tape.specs.Walk.{hit, between};
 
 pub use numbers::{
     ACTOR, ARM, ASSIGN, BESIDE, BINARY, BIT, BITS, CEIL, CELL, CHOICE, COPIES, DECLARED, DEFAULT,
@@ -119,16 +119,8 @@ pub fn wide(x: u32) -> usize
     x as usize
 }
 
-pub fn either(a: bool, b: bool) -> bool
-    ensures { result ≡ (a || b) }
-{
-    if a {
-        return true;
-    }
-    b
-}
-
 // What an item is in a type, by its operation.
+#[tactic(auto, unfolding(crate::specs::Nodes::node_of))]
 pub fn node_of(op: u32) -> Node
     ensures { result ≡ node_of op }
 {
@@ -136,13 +128,11 @@ pub fn node_of(op: u32) -> Node
         NUMBER => Node::Number,
         ENVIRONMENT => Node::Name,
         PORT => Node::Port,
-        PLUS => Node::Join,
+        PLUS | ENTRY => Node::Join,
         MINUS => Node::Minus,
         LOG => Node::Log,
-        CEIL => Node::Whole,
-        FLOOR => Node::Whole,
+        CEIL | FLOOR => Node::Whole,
         MOST => Node::Most,
-        ENTRY => Node::Join,
         WITHIN => Node::Within,
         _ => Node::Other,
     }
@@ -164,35 +154,21 @@ pub fn same_name(text: &[u8], p: usize, q: usize) -> bool
 }
 
 // Whether an item is of a class.
+#[tactic(auto, unfolding(crate::specs::Walk::hit))]
 fn is(class: Class, op: u32, value: u32) -> bool
     ensures { result ≡ hit class op value }
 {
     match class {
         Class::Signed => op == SIGNED,
         Class::Declared => op == DECLARED,
-        Class::Input => {
-            if op == DECLARED {
-                return 2 <= value;
-            }
-            false
-        }
-        Class::Output => {
-            if op == DECLARED {
-                return value < 2;
-            }
-            false
-        }
-        Class::Taken => either(op == DECLARED, op == MEMORY),
+        Class::Input => op == DECLARED && 2 <= value,
+        Class::Output => op == DECLARED && value < 2,
+        Class::Taken => op == DECLARED || op == MEMORY,
         Class::Present => op == PRESENT,
         Class::Val => op == VAL,
-        Class::Required => {
-            if op == PRESENT {
-                return value == 1;
-            }
-            false
-        }
+        Class::Required => op == PRESENT && value == 1,
         Class::Assigned => op == ASSIGN,
-        Class::Environment => either(op == ENVIRONMENT, op == VALUE),
+        Class::Environment => op == ENVIRONMENT || op == VALUE,
     }
 }
 
@@ -201,22 +177,12 @@ pub fn said(text: &[u8], tape: &[u32], from: usize, to: usize, class: Class, cal
     requires { (from ≤ to) × (3 * to ≤ length tape.now) }
     ensures { result ≡ among (between text.now tape.now class from to) called.now }
 {
-    let mut i = to;
-    while from < i {
-        i -= 1;
-        if is(class, tape[3 * i], tape[3 * i + 2]) {
-            let at = wide(tape[3 * i + 1]);
-            if spelling::same_bytes(name(text, at), called) {
-                return true;
-            }
+    for i in (from..to).rev() {
+        if is(class, tape[3 * i], tape[3 * i + 2])
+            && spelling::same_bytes(name(text, tape[3 * i + 1] as usize), called)
+        {
+            return true;
         }
     }
     false
-}
-
-// From where on items count: from here where what came before has ended.
-pub fn from(ends: bool, here: usize, before: usize) -> usize
-    ensures { result ≡ pick ends here before }
-{
-    if ends { here } else { before }
 }

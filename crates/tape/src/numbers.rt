@@ -4,6 +4,8 @@ ghost use Rattle.tape.specs.Tape.{operations};
 
 use crate::Operations;
 
+// Numbers and no enum: syntax::read promises a tape of numbers, with these operations (specs/Tape.antt, docs/TAPE.md).
+
 // Types.
 pub const NUMBER: u32 = 1;
 

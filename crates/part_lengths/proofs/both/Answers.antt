@@ -1,4 +1,4 @@
--- `row07_limits::parts::both` meets its contract. Assumes nothing.
+-- `part_lengths::both` meets its contract. Assumes nothing.
 use mathlib.Core.Path.{◌∙◌}
 use Rattle.part_lengths.specs.Parts.{both_of}
 use Rattle.part_lengths.proofs.both.Goals as goal

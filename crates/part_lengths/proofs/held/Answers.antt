@@ -1,4 +1,4 @@
--- `row07_limits::parts::held` meets its contract. Assumes nothing.
+-- `part_lengths::held` meets its contract. Assumes nothing.
 use native.Mathlib.Omega.{arith}
 use Rattle.part_lengths.specs.Parts.{places_in}
 use Rattle.part_lengths.proofs.Backs.{held_none, held_one, held_two}

@@ -1,4 +1,4 @@
--- `row07_limits::parts::nth_place` meets its contract. Assumes nothing.
+-- `part_lengths::nth_place` meets its contract. Assumes nothing.
 use Rattle.part_lengths.proofs.Backs.{nth_none, nth_some}
 use Rattle.part_lengths.proofs.nth_place.Goals as goal
 

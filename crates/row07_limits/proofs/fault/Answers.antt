@@ -23,12 +23,3 @@ returns-in-Err c =
     λ ws a short h. absurd
     (row_never args.text.now args.tape.now _ _ args.n (pre) (search rules) words.ensures.table short h
     (λ m e. let z : ◌≡◌ {A = ℕ} 0 1 = cc in omega arith) (sym c.in-Err.is ∙ words.ensures.answer))
-
-pub returns-in-NoRoom : goal.returns-in-NoRoom
-returns-in-NoRoom c =
-    let args = c.args in
-    let pre = c.requires in
-    let words = c.words in
-    λ ws a short h. absurd
-    (row_never args.text.now args.tape.now _ _ args.n (pre) (search rules) words.ensures.table short h
-    (λ m e. let z : ◌≡◌ {A = ℕ} 0 1 = cc in omega arith) (sym c.in-NoRoom.is ∙ words.ensures.answer))

@@ -1,13 +1,9 @@
 -- `row09_bindings::found` meets its contract: the lines passed do not have the name. Assumes nothing.
-use mathlib.Core.Path.{◌≡◌}
-use Prim.Native.Nat.{◌+◌, ◌-◌, ◌≤◌}
+use Rattle.std.proofs.Common.{◌≡◌, ◌+◌, ◌-◌}
 use Rattle.language.specs.Text.{index}
 use Rattle.placed.specs.Placed.{name_from}
 use Rattle.row09_bindings.specs.Lines.{names_on}
 use Rattle.row09_bindings.proofs.found.Given as goal
 
 abbrev pub invariant-loop-i : goal.invariant-loop-i
-invariant-loop-i l = (l.from ≤ l.i) × (l.i ≤ l.to) × (l.from + index (names_on l.btext l.table l.from (l.to - l.from)) (name_from l.text l.place) ≡ l.i + index (names_on l.btext l.table l.i (l.to - l.i)) (name_from l.text l.place))
-
-abbrev pub decreases-loop-i : goal.decreases-loop-i
-decreases-loop-i l = l.to - l.i
+invariant-loop-i l = l.from + index (names_on l.btext l.table l.from (l.to - l.from)) (name_from l.text l.place) ≡ l.i + index (names_on l.btext l.table l.i (l.to - l.i)) (name_from l.text l.place)

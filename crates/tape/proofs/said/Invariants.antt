@@ -1,11 +1,7 @@
 -- `tape::said` meets its contract: what is left of the items answers as all of them. Assumes nothing.
-use mathlib.Core.Path.{◌≡◌}
-use Prim.Native.Nat.{◌≤◌}
+use Rattle.std.proofs.Common.{◌≡◌, ◌≤◌}
 use Rattle.tape.proofs.Walks.{Left}
 use Rattle.tape.proofs.said.Given as goal
 
 abbrev pub invariant-loop-i : goal.invariant-loop-i
-invariant-loop-i l = (l.from ≤ l.i) × (l.i ≤ l.to) × (Left l.text l.tape l.class l.from l.called l.i ≡ Left l.text l.tape l.class l.from l.called l.to)
-
-abbrev pub decreases-loop-i : goal.decreases-loop-i
-decreases-loop-i l = l.i
+invariant-loop-i l = (l.from ≤ l.i) × (Left l.text l.tape l.class l.from l.called l.i ≡ Left l.text l.tape l.class l.from l.called l.to)
