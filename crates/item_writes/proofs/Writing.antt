@@ -11,7 +11,7 @@ use borrow.Author.Tests.{ne_eqb, lt-ltb}
 use Rattle.language.specs.Text.{index, among}
 use Rattle.language.specs.Types.{width_of, position_of}
 use Rattle.row09_bindings.proofs.Indices.{index_among}
-use Rattle.std.specs.Prelude.{Option, Some, None}
+use Rattle.std.specs.Prelude.{Option as Optional, Some, None}
 use Rattle.sized_constants.specs.Constant.{amount_of}
 use Rattle.tape.specs.Tape as Tape
 use Rattle.exact.specs.declared.Position.TheVariants.{At, Outside}
@@ -29,7 +29,7 @@ pub exact_amount : (p n m : ℕ) → Some m ≡ amount_of n → six AMOUNT p (m 
 unfolding amount_of amount
 exact_amount p n m e = go (ltb n (2 ^ 64)) e
   where
-    go : (b : Bool) → Some m ≡ elim b as (λ (x : Bool). Option ℕ) [ true ↦ Some n | false ↦ None ]
+    go : (b : Bool) → Some m ≡ elim b as (λ (x : Bool). Optional ℕ) [ true ↦ Some n | false ↦ None ]
         → six AMOUNT p (m % 2 ^ 32) (m / 2 ^ 32) 0 0 ≡ elim b as (λ (x : Bool). List ℕ) [ true ↦ six AMOUNT p (n % 2 ^ 32) (n / 2 ^ 32) 0 0 | false ↦ six BIG p 0 0 0 0 ]
     go true q = let r : m ≡ n = cc in ap (λ (k : ℕ). six AMOUNT p (k % 2 ^ 32) (k / 2 ^ 32) 0 0) r
     go false q = absurd (let z : ◌≡◌ {A = ℕ} 0 1 = cc in omega arith)
@@ -38,7 +38,7 @@ pub big_amount : (p n : ℕ) → None ≡ amount_of n → six BIG p 0 0 0 0 ≡ 
 unfolding amount_of amount
 big_amount p n e = go (ltb n (2 ^ 64)) e
   where
-    go : (b : Bool) → None ≡ elim b as (λ (x : Bool). Option ℕ) [ true ↦ Some n | false ↦ None ]
+    go : (b : Bool) → None ≡ elim b as (λ (x : Bool). Optional ℕ) [ true ↦ Some n | false ↦ None ]
         → six BIG p 0 0 0 0 ≡ elim b as (λ (x : Bool). List ℕ) [ true ↦ six AMOUNT p (n % 2 ^ 32) (n / 2 ^ 32) 0 0 | false ↦ six BIG p 0 0 0 0 ]
     go true q = absurd (let z : ◌≡◌ {A = ℕ} 0 1 = cc in omega arith)
     go false q = refl

@@ -1,5 +1,5 @@
 -- The walk's state in tables: the types that wait as parts of one code; what an item writes, and what it does to those types, by value. Assumes nothing: these are definitions.
-use Rattle.std.specs.Prelude.{◌≡◌, Bool, ◌||◌, List, [], ◌∷◌, ℕ, zero, suc, ◌+◌, ◌*◌, ◌≤◌, ◌<◌, eqb, ltb, length, get_or, take, drop}
+use Rattle.std.specs.Prelude.{Option as Optional, Some, None, ◌≡◌, Bool, ◌||◌, List, [], ◌∷◌, ℕ, zero, suc, ◌+◌, ◌*◌, ◌≤◌, ◌<◌, eqb, ltb, length, get_or, take, drop}
 use Rattle.tape.specs.Tape as Tape
 use Rattle.tape.specs.declared.Class.{Class}
 use Rattle.tape.specs.Walk.{op_at, place_at, value_at, between}
@@ -12,8 +12,6 @@ use Rattle.item_writes.specs.declared.Waits.{Waits}
 use Rattle.item_writes.specs.declared.Far.{Far}
 use Rattle.item_writes.specs.declared.Grows.{Grows}
 use Rattle.item_writes.specs.declared.Grows.TheVariants.{Nothing as Same, Leaf, End, Join}
-use Rattle.item_writes.specs.declared.Written.{Written}
-use Rattle.item_writes.specs.declared.Written.TheVariants.{Nothing, Six}
 use Rattle.item_writes.specs.Walk.{Around, State, ends, joins, when, read_out, grown, written, step, around_of, settled_on}
 
 -- ---- the types that wait
@@ -57,9 +55,13 @@ pub record Grew (g : Grows) (code starts : List ℕ) (w : Waits) (code' starts' 
 
 -- ---- what an item writes
 
+-- nothing, or six numbers
+abbrev pub Written : Type 0
+Written = Optional (List ℕ)
+
 unfoldable pub numbers_of : Written → List ℕ
-numbers_of Nothing = []
-numbers_of (Six op p a b c d) = six op p a b c d
+numbers_of None = []
+numbers_of (Some l) = l
 
 -- an item that writes nothing
 unfoldable pub silent : ℕ → Bool

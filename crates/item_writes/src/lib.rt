@@ -32,13 +32,6 @@ pub enum Grows {
     Join(u32),
 }
 
-// What an item writes.
-#[derive(Clone, Copy)]
-pub enum Written {
-    Nothing,
-    Six(u32, u32, u32, u32, u32, u32),
-}
-
 // How far the walk is: the types that wait, the numbers written, from which item on the `let`s in force stand, the `val`s of
 // this rule, the size for the next memory.
 #[derive(Clone, Copy)]

@@ -11,17 +11,15 @@ ghost use Rattle.item_writes.specs.Tables.{Ordered, waits_in, begins_at, Left, G
 
 use crate::{Counts, Grows, Waits};
 use exact::Position;
-use looked_up::{less, narrow, numbered, value};
+use looked_up::{narrow, numbered, value};
 use tape::{CEIL, ENTRY, ENVIRONMENT, FLOOR, LOG, MINUS, NUMBER, PLUS, PORT, SIGNED, wide};
 
 // A node's number, where 32 bits hold it: a leaf of 0 else.
+#[tactic(auto, unfolding(crate::specs::Walk::leaf, crate::specs::Walk::when))]
 fn leaf(k: usize) -> u32
     ensures { result ≡ leaf_of k }
 {
-    if k < 4294967296 {
-        return k as u32;
-    }
-    0
+    u32::try_from(k).unwrap_or(0)
 }
 
 // What an item does to the types that wait.
@@ -40,8 +38,7 @@ pub fn growth(
     match tape[3 * i] {
         NUMBER => Grows::Leaf(leaf(wide(tape[3 * i + 2]) * 8)),
         ENVIRONMENT => {
-            let lines = many.lines;
-            let x = value(text, wide(place), btext, table, lines);
+            let x = value(text, wide(place), btext, table, many.lines);
             Grows::Leaf(leaf(wide(x) * 8))
         }
         PORT => Grows::Leaf(leaf(numbered(text, tape, many.items, SIGNED, place) * 8 + 1)),
@@ -56,14 +53,12 @@ pub fn growth(
 }
 
 // Where the n-th type that waits starts; the end of the nodes where fewer wait.
+#[tactic(auto, unfolding(crate::specs::Tables::begins_at, crate::specs::Walk::when))]
 fn begins(starts: &[usize], w: Waits, n: usize) -> usize
     requires { w.types ≤ length starts.now }
     ensures { result ≡ begins_at starts.now w n }
 {
-    if n < w.types {
-        return starts[n];
-    }
-    w.nodes
+    if n < w.types { starts[n] } else { w.nodes }
 }
 
 // The types that wait without the latest k.
@@ -71,7 +66,7 @@ pub fn without(starts: &[usize], w: Waits, k: usize) -> Waits
     requires { (w.types ≤ length starts.now) × Ordered starts.now w.types w.nodes }
     ensures { Left starts.now w result × ((code : List ℕ) → waits_in code starts.now result ≡ without_of k (waits_in code starts.now w)) }
 {
-    let n = less(w.types, k);
+    let n = w.types.saturating_sub(k);
     Waits {
         types: n,
         nodes: begins(starts, w, n),
@@ -101,7 +96,7 @@ pub fn grow(g: Grows, w: Waits, code: &mut [u32], starts: &mut [usize]) -> Waits
             }
             code[nodes] = k;
             Waits {
-                types: types,
+                types,
                 nodes: nodes + 1,
             }
         }
@@ -123,7 +118,7 @@ pub fn width(code: &[u32], starts: &[usize], widths: &[u32], w: Waits) -> u32
     requires { (w.types ≤ length starts.now) × (w.nodes ≤ length code.now) }
     ensures { result ≡ operand (width_of (value_of widths.now (latest_of (waits_in code.now starts.now w)))) }
 {
-    let from = begins(starts, w, less(w.types, 1));
+    let from = begins(starts, w, w.types.saturating_sub(1));
     narrow(type_value::width_at(code, from, w.nodes, widths) as usize)
 }
 
@@ -132,7 +127,7 @@ pub fn position(code: &[u32], starts: &[usize], widths: &[u32], w: Waits) -> u32
     requires { (w.types ≤ length starts.now) × (w.nodes ≤ length code.now) }
     ensures { result ≡ operand (placed (position_of (value_of widths.now (latest_of (waits_in code.now starts.now w))))) }
 {
-    let from = begins(starts, w, less(w.types, 1));
+    let from = begins(starts, w, w.types.saturating_sub(1));
     match type_value::position_at(code, from, w.nodes, widths) {
         Position::At(p) => narrow(p as usize),
         Position::Outside => settled::OUTSIDE,

@@ -14,9 +14,9 @@ ghost use Rattle.item_writes.specs.Walk.{port_out, memory_width_out, cell_out, s
 ghost use Rattle.item_writes.specs.Tables.{Ordered, numbers_of, silent as silent_of, plain_out, Looked, Lent, Writes, Reads, WritesTyped};
 
 use crate::nodes::{position, width, without};
-use crate::{Counts, Far, Waits, Written};
+use crate::{Counts, Far, Waits};
 use bindings::Lines;
-use looked_up::{cells_before, count, latest, less, narrow, numbered, size_of, value, width_of};
+use looked_up::{cells_before, count, latest, narrow, numbered, size_of, value, width_of};
 use tape::{
     ACTOR, ASSIGN, BIT, BITS, CELL, Class, DECLARED, DEFAULT, END, GIVEN, GROUPED, INSIDE, LET,
     MEMORY, PRESENT, RANGE, READ, SIGNED, SIZE, TYPED, VAL, VALUE, WRITE, name, said, wide,
@@ -26,24 +26,24 @@ use tape::{
 const OUTPUT: usize = plan::OUTPUT as usize;
 
 // A constant's value in two halves, where 64 bits hold it.
-fn amount(place: u32, x: Option<u64>) -> Written
+fn amount(place: u32, x: Option<u64>) -> Option<[u32; 6]>
     ensures { (n : ℕ) → x ≡ amount_of n → numbers_of result ≡ amount_numbers place n }
 {
     match x {
-        Some(n) => Written::Six(
+        Some(n) => Some([
             settled::AMOUNT,
             place,
             (n % 4294967296) as u32,
             (n / 4294967296) as u32,
             0,
             0,
-        ),
-        None => Written::Six(settled::BIG, place, 0, 0, 0, 0),
+        ]),
+        None => Some([settled::BIG, place, 0, 0, 0, 0]),
     }
 }
 
 // The value of an environment name.
-fn bound(text: &[u8], place: u32, btext: &[u8], table: &[u32], lines: Lines) -> Written
+fn bound(text: &[u8], place: u32, btext: &[u8], table: &[u32], lines: Lines) -> Option<[u32; 6]>
     requires { Lined lines table.now }
     ensures { numbers_of result ≡ amount_numbers place (value_in (lines_on btext.now table.now lines.widths lines.values) (name_from text.now place)) }
 {
@@ -52,12 +52,19 @@ fn bound(text: &[u8], place: u32, btext: &[u8], table: &[u32], lines: Lines) -> 
 }
 
 // A port: its number and its width.
-fn port(text: &[u8], tape: &[u32], many: usize, op: u32, place: u32, widths: &[u32]) -> Written
+fn port(
+    text: &[u8],
+    tape: &[u32],
+    many: usize,
+    op: u32,
+    place: u32,
+    widths: &[u32],
+) -> Option<[u32; 6]>
     requires { 3 * many ≤ length tape.now }
     ensures { Looked text.now tape.now many widths.now (numbers_of result) (λ a s. port_out a s op place) }
 {
     let k = numbered(text, tape, many, SIGNED, place);
-    Written::Six(op, place, narrow(k), 0, 0, width_of(widths, k))
+    Some([op, place, narrow(k), 0, 0, width_of(widths, k)])
 }
 
 // The width of the memory whose name stands at a place: memories come after the ports.
@@ -74,14 +81,21 @@ fn memory_width(text: &[u8], tape: &[u32], many: usize, place: u32, widths: &[u3
 }
 
 // A cell of a memory: its number, its first cell, its size and its width.
-fn cell(text: &[u8], tape: &[u32], many: usize, op: u32, place: u32, widths: &[u32]) -> Written
+fn cell(
+    text: &[u8],
+    tape: &[u32],
+    many: usize,
+    op: u32,
+    place: u32,
+    widths: &[u32],
+) -> Option<[u32; 6]>
     requires { (3 * many ≤ length tape.now) × (many ≤ most_items) }
     ensures { Looked text.now tape.now many widths.now (numbers_of result) (λ a s. cell_out a s op place) }
 {
     let k = numbered(text, tape, many, MEMORY, place);
     let first = narrow(cells_before(tape, many, k));
     let w = memory_width(text, tape, many, place, widths);
-    Written::Six(op, place, narrow(k), first, size_of(tape, many, k), w)
+    Some([op, place, narrow(k), first, size_of(tape, many, k), w])
 }
 
 // The latest `let` in force of a name, in its slot; where there is none, a port.
@@ -94,73 +108,75 @@ fn read(
     widths: &[u32],
     lets: usize,
     vals: usize,
-) -> Written
+) -> Option<[u32; 6]>
     requires { (3 * many ≤ length tape.now) × (lets ≤ i) × (i < many) }
     ensures { Reads result text.now tape.now many i place widths.now lets vals }
 {
     let called = name(text, wide(place));
     if said(text, tape, lets, i, Class::Val, called) {
         let k = latest(text, tape, lets, i, called);
-        let slot = less(less(vals, k), 1);
-        return Written::Six(settled::HELD, place, narrow(slot), 0, 0, 0);
+        let slot = vals.saturating_sub(k).saturating_sub(1);
+        return Some([settled::HELD, place, narrow(slot), 0, 0, 0]);
     }
     port(text, tape, many, settled::READ, place, widths)
 }
 
 // A port as the plan has it: its width, plus 256 for an output.
-fn signed(text: &[u8], tape: &[u32], many: usize, place: u32, widths: &[u32]) -> Written
+fn signed(text: &[u8], tape: &[u32], many: usize, place: u32, widths: &[u32]) -> Option<[u32; 6]>
     requires { 3 * many ≤ length tape.now }
     ensures { Looked text.now tape.now many widths.now (numbers_of result) (λ a s. signed_out a s place) }
 {
     let w = width_of(widths, numbered(text, tape, many, SIGNED, place));
     if said(text, tape, 0, many, Class::Input, name(text, wide(place))) {
-        return Written::Six(settled::SIGNED, place, w, 0, 0, 0);
+        return Some([settled::SIGNED, place, w, 0, 0, 0]);
     }
-    Written::Six(settled::SIGNED, place, narrow(wide(w) + OUTPUT), 0, 0, 0)
+    Some([settled::SIGNED, place, narrow(wide(w) + OUTPUT), 0, 0, 0])
 }
 
 // An entry of a rule's list: its port, and whether it is to be present.
-fn entry(text: &[u8], tape: &[u32], many: usize, place: u32, value: u32) -> Written
+fn entry(text: &[u8], tape: &[u32], many: usize, place: u32, value: u32) -> Option<[u32; 6]>
     requires { 3 * many ≤ length tape.now }
     ensures { numbers_of result ≡ six PRESENT place (operand (index (named text.now tape.now SIGNED 0 many) (name_from text.now place))) value 0 0 }
 {
     let port = narrow(numbered(text, tape, many, SIGNED, place));
-    Written::Six(settled::PRESENT, place, port, value, 0, 0)
+    Some([settled::PRESENT, place, port, value, 0, 0])
 }
 
 // A memory: its width and its size.
-fn memory(text: &[u8], tape: &[u32], many: usize, place: u32, widths: &[u32], size: u32) -> Written
+fn memory(
+    text: &[u8],
+    tape: &[u32],
+    many: usize,
+    place: u32,
+    widths: &[u32],
+    size: u32,
+) -> Option<[u32; 6]>
     requires { (3 * many ≤ length tape.now) × (many ≤ most_items) }
     ensures { Looked text.now tape.now many widths.now (numbers_of result) (λ a s. six MEMORY place (memory_width_out a s place) size 0 0) }
 {
     let w = memory_width(text, tape, many, place, widths);
-    Written::Six(settled::MEMORY, place, w, size, 0, 0)
+    Some([settled::MEMORY, place, w, size, 0, 0])
 }
 
 // Whether an item writes nothing.
+#[tactic(auto, unfolding(crate::specs::Tables::silent))]
 fn silent(op: u32) -> bool
     ensures { result ≡ silent_of op }
 {
-    (op < BITS)
-        | (op == LET)
-        | (op == END)
-        | (op == GROUPED)
-        | (op == DECLARED)
-        | (op == SIZE)
-        | (op == ACTOR)
+    op < BITS || matches!(op, LET | END | GROUPED | DECLARED | SIZE | ACTOR)
 }
 
 // An item that neither names something nor holds a type.
-fn plain(op: u32, place: u32, value: u32) -> Written
+#[tactic(auto, unfolding(crate::specs::Tables::numbers_of, crate::specs::Tables::plain_out, crate::specs::Walk::when))]
+fn plain(op: u32, place: u32, value: u32) -> Option<[u32; 6]>
     ensures { numbers_of result ≡ plain_out op place value }
 {
     if silent(op) {
-        return Written::Nothing;
+        return None;
     }
     match op {
-        INSIDE => Written::Six(settled::START, place, 0, 0, 0, 0),
-        DEFAULT => Written::Six(settled::START, place, 0, 0, 0, 0),
-        _ => Written::Six(op, place, value, 0, 0, 0),
+        INSIDE | DEFAULT => Some([settled::START, place, 0, 0, 0, 0]),
+        _ => Some([op, place, value, 0, 0, 0]),
     }
 }
 
@@ -174,34 +190,35 @@ fn typed(
     widths: &[u32],
     w: Waits,
     vals: usize,
-) -> Written
+) -> Option<[u32; 6]>
     requires { (w.types ≤ length starts.now) × (w.nodes ≤ length code.now) × Ordered starts.now w.types w.nodes }
     ensures { WritesTyped result op place value code.now starts.now widths.now w vals }
 {
     match op {
-        TYPED => Written::Six(
+        TYPED => Some([
             settled::BITS,
             place,
             width(code, starts, widths, w),
             0,
             0,
             0,
-        ),
+        ]),
         BIT => {
             let q = position(code, starts, widths, w);
-            Written::Six(settled::RANGE, place, q, q, 0, 0)
+            Some([settled::RANGE, place, q, q, 0, 0])
         }
         RANGE => {
             let low = position(code, starts, widths, w);
             let high = position(code, starts, widths, without(starts, w, 1));
-            Written::Six(settled::RANGE, place, high, low, 0, 0)
+            Some([settled::RANGE, place, high, low, 0, 0])
         }
         VAL => {
             if value == 1 {
                 let x = width(code, starts, widths, w);
-                return Written::Six(settled::TYPED, place, narrow(vals), 0, 0, x);
+                Some([settled::TYPED, place, narrow(vals), 0, 0, x])
+            } else {
+                Some([settled::VAL, place, narrow(vals), 0, 0, 0])
             }
-            Written::Six(settled::VAL, place, narrow(vals), 0, 0, 0)
         }
         _ => plain(op, place, value),
     }
@@ -219,7 +236,7 @@ pub fn written(
     code: &[u32],
     starts: &[usize],
     far: Far,
-) -> Written
+) -> Option<[u32; 6]>
     requires { Lent tape.now table.now code.now starts.now many i far }
     ensures { Writes result text.now tape.now btext.now table.now widths.now code.now starts.now many i far }
 {
@@ -229,10 +246,7 @@ pub fn written(
     let v = tape[3 * i + 2];
     match op {
         GIVEN => amount(p, sized_constants::constant(text, wide(p))),
-        VALUE => {
-            let lines = many.lines;
-            bound(text, p, btext, table, lines)
-        }
+        VALUE => { bound(text, p, btext, table, many.lines) }
         READ => read(text, tape, n, i, p, widths, far.lets, far.vals),
         CELL => cell(text, tape, n, settled::CELL, p, widths),
         WRITE => cell(text, tape, n, settled::WRITE, p, widths),
@@ -240,9 +254,6 @@ pub fn written(
         PRESENT => entry(text, tape, n, p, v),
         MEMORY => memory(text, tape, n, p, widths, far.size),
         SIGNED => signed(text, tape, n, p, widths),
-        _ => {
-            let w = far.waits;
-            typed(op, p, v, code, starts, widths, w, far.vals)
-        }
+        _ => { typed(op, p, v, code, starts, widths, far.waits, far.vals) }
     }
 }

@@ -1,11 +1,12 @@
 -- Tables whose starts hold lists: what is stored at their ends, and what stands past it. Assumes nothing.
 use mathlib.Core.Path.{◌≡◌, refl, sym, ap, ap₂, ◌∙◌}
-use mathlib.Core.List.{List, [], ◌∷◌, ◌++◌}
+use mathlib.Core.List.{List, [], ◌∷◌, ◌++◌, append_assoc}
 use Prim.Native.Nat.{ℕ, ◌+◌, ◌-◌, ◌≤◌, ◌<◌}
 use native.Mathlib.Numerals.{add-one}
 use native.Mathlib.Omega.{arith}
 use lib.ListN.{length, set, take, drop, length-append, take-append-drop}
 use lib.Seq.{sets, sets-eq, take_at, drop_at, length-take-le, drop-drop, take-suc-set, drop-set-lt}
+use borrow.Rule.Slice.PartMut.{put_mid}
 use Rattle.laws.specs.Tables.{Kept}
 
 -- ---- what is stored
@@ -19,6 +20,12 @@ module _ (l vs : List ℕ) (n : ℕ) (h : n + length vs ≤ length l) where
 
   pub unstored : drop (n + length vs) (sets l n vs) ≡ drop (n + length vs) l
   unstored = ap (drop (n + length vs)) (sets-eq vs l n h) ∙ drop_at (take n l ++ vs) (drop (n + length vs) l) (n + length vs) until
+
+-- a part of a table that is written over, as `l[n..n + k]` by a list of that length
+pub part_stored : (l y vs : List ℕ) (n k : ℕ) → y ≡ vs → k ≡ length vs → n + length vs ≤ length l → put_mid n k l y ≡ sets l n vs
+part_stored l y vs n k e f h =
+    ap₂ (λ (x : List ℕ) (m : ℕ). put_mid n m l x) e f ∙ ap (λ (d : List ℕ). take n l ++ (vs ++ d)) (drop-drop (length vs) n l)
+    ∙ sym (append_assoc (take n l) vs (drop (n + length vs) l)) ∙ sym (sets-eq vs l n h)
 
 -- one number at the end
 pub stored_one : (l : List ℕ) (n v : ℕ) → n < length l → take (n + 1) (set l n v) ≡ take n l ++ (v ∷ [])

@@ -18,23 +18,18 @@ use bindings::Lines;
 use tape::{MEMORY, SIZE, VAL, name, wide};
 
 // A number as an operand: what 32 bits do not hold is outside.
+#[tactic(auto, unfolding(crate::specs::Lookup::operand))]
 pub fn narrow(n: usize) -> u32
     ensures { result ≡ operand n }
 {
-    if n < 4294967296 {
-        return n as u32;
-    }
-    settled::OUTSIDE
+    u32::try_from(n).unwrap_or(settled::OUTSIDE)
 }
 
 // The width of a port or memory by its number; 0 where there is none.
 pub fn width_of(widths: &[u32], k: usize) -> u32
     ensures { result ≡ get_or widths.now k 0 }
 {
-    if k < widths.len() {
-        return widths[k];
-    }
-    0
+    widths.get(k).copied().unwrap_or(0)
 }
 
 // Where a name stands among those of the items of an operation; how many they are where it does not.
@@ -43,10 +38,7 @@ fn number(text: &[u8], tape: &[u32], many: usize, op: u32, called: &[u8]) -> usi
     ensures { result ≡ index (named text.now tape.now op 0 many) called.now }
 {
     let mut k = 0;
-    let mut next = 0;
-    while next < many {
-        let i = next;
-        next += 1;
+    for i in 0..many {
         if tape[3 * i] == op {
             let at = wide(tape[3 * i + 1]);
             if spelling::same_bytes(name(text, at), called) {
@@ -72,10 +64,7 @@ pub fn count(tape: &[u32], many: usize, op: u32) -> usize
     ensures { (result ≤ many) × ((text : List ℕ) → result ≡ length (named text tape.now op 0 many)) }
 {
     let mut k = 0;
-    let mut next = 0;
-    while next < many {
-        let i = next;
-        next += 1;
+    for i in 0..many {
         if tape[3 * i] == op {
             k += 1;
         }
@@ -89,9 +78,7 @@ pub fn latest(text: &[u8], tape: &[u32], from: usize, to: usize, called: &[u8]) 
     ensures { result ≡ index (between text.now tape.now Class.Val from to) called.now }
 {
     let mut k = 0;
-    let mut i = to;
-    while from < i {
-        i -= 1;
+    for i in (from..to).rev() {
         if tape[3 * i] == VAL {
             let at = wide(tape[3 * i + 1]);
             if spelling::same_bytes(name(text, at), called) {
@@ -104,31 +91,27 @@ pub fn latest(text: &[u8], tape: &[u32], from: usize, to: usize, called: &[u8]) 
 }
 
 // The value of the environment name at a place, by the lines of the bindings; 0 where none has it.
+#[tactic(auto, using(crate::proofs::Numbers::value_found, crate::proofs::Numbers::value_missing))]
 pub fn value(text: &[u8], place: usize, btext: &[u8], table: &[u32], lines: Lines) -> u32
     requires { Lined lines table.now }
     ensures { result ≡ value_in (lines_on btext.now table.now lines.widths lines.values) (name_from text.now place) }
 {
     let to = lines.widths + lines.values;
     let i = row09_bindings::found(text, place, btext, table, lines.widths, to);
-    if i < to {
-        return table[3 * i + 2];
-    }
-    0
+    if i < to { table[3 * i + 2] } else { 0 }
 }
 
 // The size that the item before i gives; 1 where it gives none.
+#[tactic(auto, using(crate::proofs::Numbers::size_given_law, crate::proofs::Numbers::size_one), unfolding(crate::specs::Lookup::size_before))]
 fn size_before(tape: &[u32], i: usize) -> u32
     requires { 3 * i ≤ length tape.now }
     ensures { result ≡ size_before tape.now i }
 {
-    if i == 0 {
-        return 1;
+    if 0 < i && tape[3 * (i - 1)] == SIZE {
+        tape[3 * (i - 1) + 2]
+    } else {
+        1
     }
-    let j = i - 1;
-    if tape[3 * j] == SIZE {
-        return tape[3 * j + 2];
-    }
-    1
 }
 
 // The cells of the first k memories together.
@@ -138,10 +121,7 @@ pub fn cells_before(tape: &[u32], many: usize, k: usize) -> usize
 {
     let mut sum = 0;
     let mut left = k;
-    let mut next = 0;
-    while next < many {
-        let i = next;
-        next += 1;
+    for i in 0..many {
         if left == 0 {
             return sum;
         }
@@ -159,10 +139,7 @@ pub fn size_of(tape: &[u32], many: usize, k: usize) -> u32
     ensures { result ≡ get_or (sizes_on tape.now 0 many) k 0 }
 {
     let mut left = k;
-    let mut next = 0;
-    while next < many {
-        let i = next;
-        next += 1;
+    for i in 0..many {
         if tape[3 * i] == MEMORY {
             if left == 0 {
                 return size_before(tape, i);
@@ -171,11 +148,4 @@ pub fn size_of(tape: &[u32], many: usize, k: usize) -> u32
         }
     }
     0
-}
-
-// So many less, none where there are fewer.
-pub fn less(n: usize, k: usize) -> usize
-    ensures { result ≡ n - k }
-{
-    if k <= n { n - k } else { 0 }
 }

@@ -9,23 +9,17 @@ use lib.Dec.{eqb}
 use lib.ListN.{length, take}
 use borrow.Author.Tests.{eqb-true, ne_eqb}
 use Rattle.placed.specs.Placed.{name_from}
-use Rattle.tape.specs.Tape.{VAL, END, RULED}
+use Rattle.laws.specs.Tables.{Kept}
+use Rattle.tape.specs.Tape.{VAL, END, RULED, most_items}
 use Rattle.tape.specs.declared.Class.{Class}
 use Rattle.tape.specs.Walk.{op_at, place_at, value_at, hit, add, names_on, between}
 use Rattle.tape.proofs.Seens.{more}
 use Rattle.bindings.specs.declared.Lines.{Lines}
 use Rattle.item_writes.specs.declared.Far.{Far}
-use Rattle.item_writes.specs.declared.Written.{Written}
-use Rattle.item_writes.specs.declared.Written.TheVariants.{Nothing, Six}
 use Rattle.item_writes.specs.Walk.{Around, State, when, without, takes, grown, written, step, walked, around_of}
-use Rattle.item_writes.specs.Tables.{waits_in, numbers_of, lets_after, vals_after, size_after, state_of}
+use Rattle.item_writes.specs.Tables.{waits_in, lets_after, vals_after, size_after, state_of, Bounded}
 
 -- ---- bounds
-
-pub numbers_few : (w : Written) → length (numbers_of w) ≤ 6
-unfolding numbers_of
-numbers_few Nothing = omega arith
-numbers_few (Six op p a b c d) = omega arith
 
 one_of : (b : Bool) (x y z : ℕ) → x ≤ z → y ≤ z → when b x y ≤ z
 unfolding when
@@ -107,3 +101,13 @@ module _ (text t : List ℕ) (many : ℕ) (btext table : List ℕ) (lines : Line
 pub walked_next : (a : Around) (t : List ℕ) (i : ℕ) (s s' : State) → s ≡ walked a t i → s' ≡ step a s (op_at t i) (place_at t i) (value_at t i) → s' ≡ walked a t (i + 1)
 unfolding walked
 walked_next a t i s s' e f = rw (add-one i) (f ∙ ap (λ (x : State). step a x (op_at t i) (place_at t i) (value_at t i)) e)
+
+-- ---- the walk's tables after i items
+
+pub record Walked (text t : List ℕ) (many : ℕ) (btext table : List ℕ) (lines : Lines) (ws out₀ code starts out : List ℕ) (far : Far) (i : ℕ) : Type 0 where
+  pub many_nodes : length code ≡ most_items
+  pub many_types : length starts ≡ most_items
+  pub long : length out ≡ length out₀
+  pub bounded : Bounded starts i far
+  pub kept : Kept 0 far.out out₀ out
+  pub holds : state_of text t code starts out i far ≡ walked (around_of text t many btext table lines ws) t i

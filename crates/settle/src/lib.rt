@@ -33,8 +33,7 @@ fn walk(
     let mut code = [0u32; ITEMS];
     let mut starts = [0usize; ITEMS];
     let mut far = begin();
-    let mut i = 0;
-    while i < many.items {
+    for i in 0..many.items {
         far = step(
             text,
             tape,
@@ -48,7 +47,6 @@ fn walk(
             out,
             far,
         );
-        i += 1;
     }
     far.out
 }

@@ -7,7 +7,7 @@ ghost use Rattle.item_writes.specs.Tables.{numbers_of, beginning, lets_after, va
 
 use crate::items::takes;
 use item_writes::writes::written;
-use item_writes::{Counts, Far, Waits, Written, grow, growth, without};
+use item_writes::{Counts, Far, Waits, grow, growth, without};
 use tape::{END, MEMORY, RULED, SIZE, VAL, wide};
 
 // Before the first item.
@@ -24,37 +24,35 @@ pub fn begin() -> Far
 }
 
 // The numbers that an item writes, put after those before: how many they are then.
-fn put(w: Written, out: &mut [u32], at: usize) -> usize
+fn put(w: Option<[u32; 6]>, out: &mut [u32], at: usize) -> usize
     requires { at + 6 ≤ length out.old }
-    ensures { (result ≡ at + length (numbers_of w)) × (out.new ≡ sets out.old at (numbers_of w)) }
+    ensures few { length (numbers_of w) ≤ 6 }
+    ensures end { result ≡ at + length (numbers_of w) }
+    ensures put { out.new ≡ sets out.old at (numbers_of w) }
 {
     match w {
-        Written::Nothing => at,
-        Written::Six(op, p, a, b, c, d) => {
-            out[at] = op;
-            out[at + 1] = p;
-            out[at + 2] = a;
-            out[at + 3] = b;
-            out[at + 4] = c;
-            out[at + 5] = d;
+        Some(six) => {
+            out[at..at + 6].copy_from_slice(&six);
             at + 6
         }
+        None => at,
     }
 }
 
 // From which item on the `let`s in force stand, after item i.
+#[tactic(auto, unfolding(item_writes::specs::Tables::lets_after, item_writes::specs::Walk::when))]
 fn lets_after(op: u32, i: usize, lets: usize) -> usize
     requires { i < most_items }
     ensures { result ≡ lets_after op i lets }
 {
     match op {
-        END => i + 1,
-        RULED => i + 1,
+        END | RULED => i + 1,
         _ => lets,
     }
 }
 
 // The `val`s of this rule so far.
+#[tactic(auto, unfolding(item_writes::specs::Tables::vals_after, item_writes::specs::Walk::when))]
 fn vals_after(op: u32, vals: usize) -> usize
     requires { vals ≤ most_items }
     ensures { result ≡ vals_after op vals }
@@ -67,6 +65,7 @@ fn vals_after(op: u32, vals: usize) -> usize
 }
 
 // The size for the next memory.
+#[tactic(auto, unfolding(item_writes::specs::Tables::size_after, item_writes::specs::Walk::when))]
 fn size_after(op: u32, value: u32, size: u32) -> u32
     ensures { result ≡ size_after op value size }
 {
@@ -102,8 +101,7 @@ pub fn step(
     let v = tape[3 * i + 2];
     let w = written(text, tape, btext, table, widths, many, i, code, starts, far);
     let g = growth(text, tape, btext, table, many, i);
-    let waits = far.waits;
-    let left = without(starts, waits, wide(takes(op, v)));
+    let left = without(starts, far.waits, wide(takes(op, v)));
     let grown = grow(g, left, code, starts);
     Far {
         waits: grown,

@@ -9,7 +9,7 @@ use Rattle.looked_up.proofs.Numbers.{before_here, before_next, before_other, bef
 use Rattle.looked_up.proofs.latest.Goals as goal
 
 pub loop-i-init : goal.loop-i-init
-loop-i-init c = (omega arith, omega arith, omega arith, omega arith)
+loop-i-init c = (omega arith, omega arith)
 
 pub returns-then-same_bytes : goal.returns-then-same_bytes
 returns-then-same_bytes c =
@@ -22,7 +22,7 @@ returns-then-same_bytes c =
     (ap (λ (l : List ℕ). same l s.args.called.now) (sym (c.name.ensures ∙ ap (name_from s.args.text.now) wide.ensures))
     ∙ sym c.same_bytes.ensures ∙ c.if-same_bytes.true)
     in
-    omega (arith, e, loop.invariant.3)
+    omega (arith, e, loop.invariant.1)
 
 pub loop-i-preserved-then-tape-i-eq-VAL : goal.loop-i-preserved-then-tape-i-eq-VAL
 loop-i-preserved-then-tape-i-eq-VAL c =
@@ -35,16 +35,16 @@ loop-i-preserved-then-tape-i-eq-VAL c =
     (ap (λ (l : List ℕ). same l s.args.called.now) (sym (c.name.ensures ∙ ap (name_from s.args.text.now) wide.ensures))
     ∙ sym c.same_bytes.ensures ∙ c.if-same_bytes.false)
     in
-    (omega arith, omega arith, omega arith, omega (arith, e, loop.invariant.3))
+    (omega arith, omega (arith, e, loop.invariant.1))
 
 pub loop-i-preserved : goal.loop-i-preserved
 loop-i-preserved c =
     let s = c in
     let e = before_other s.args.text.now s.args.tape.now s.args.from s.args.called.now c.loop-i.i c.loop-i-test.true c.if-tape-i-eq-VAL.false in
-    (omega arith, omega arith, omega arith, omega (arith, e, c.loop-i.invariant.3))
+    (omega arith, omega (arith, e, c.loop-i.invariant.1))
 
 pub returns : goal.returns
 returns c =
     let s = c in
-    let e = before_none s.args.text.now s.args.tape.now s.args.from s.args.called.now c.loop-i.i c.loop-i-test.false in
-    omega (arith, e, c.loop-i.invariant.3)
+    let e = before_none s.args.text.now s.args.tape.now s.args.from s.args.called.now c.loop-i.i (omega arith) in
+    omega (arith, e, c.loop-i.invariant.1)

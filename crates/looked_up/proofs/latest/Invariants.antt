@@ -5,7 +5,4 @@ use Rattle.looked_up.proofs.Numbers.{Before}
 use Rattle.looked_up.proofs.latest.Given as goal
 
 abbrev pub invariant-loop-i : goal.invariant-loop-i
-invariant-loop-i l = (l.from ≤ l.i) × (l.i ≤ l.to) × (l.k ≤ l.to - l.i) × (Before l.text l.tape l.from l.called l.to ≡ l.k + Before l.text l.tape l.from l.called l.i)
-
-abbrev pub decreases-loop-i : goal.decreases-loop-i
-decreases-loop-i l = l.i
+invariant-loop-i l = (l.k ≤ l.to - l.i) × (Before l.text l.tape l.from l.called l.to ≡ l.k + Before l.text l.tape l.from l.called l.i)

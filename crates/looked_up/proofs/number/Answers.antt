@@ -7,47 +7,27 @@ use native.Mathlib.Omega.{arith}
 use Rattle.language.specs.Text.{same}
 use Rattle.looked_up.proofs.Numbers.{from_here, from_next, from_other, from_none, from_all}
 use Rattle.looked_up.proofs.number.Goals as goal
-
-pub loop-next-init : goal.loop-next-init
-loop-next-init c = (omega arith, omega arith, omega arith)
+use Rattle.looked_up.proofs.number.Goals.{then-tape-i+else-same_bytes, else-tape-i}
 
 pub returns-then-same_bytes : goal.returns-then-same_bytes
 returns-then-same_bytes c =
-    let loop = c.loop-next in
-    let loop-test = c.loop-next-test in
-    let if1 = c.if-tape-i in
-    let wide = c.wide-at in
-    let s = c in
-    let e = from_here s.args.text.now s.args.tape.now s.args.op s.args.many s.args.called.now loop.next loop-test.true
-    if1.true
-    (ap (λ (l : List ℕ). same l s.args.called.now) (sym (c.name.ensures ∙ ap (name_from s.args.text.now) wide.ensures))
-    ∙ sym c.same_bytes.ensures ∙ c.if-same_bytes.true)
-    in
-    let a = from_all s.args.text.now s.args.tape.now s.args.op s.args.many s.args.called.now in omega (arith, e, a, loop.invariant.2)
+    let a = c.args in
+    let is = ap (λ (l : List ℕ). same l a.called.now) (sym (c.name.ensures ∙ ap (name_from a.text.now) c.wide-at.ensures)) ∙ sym c.same_bytes.ensures ∙ c.if-same_bytes.true in
+    let e = from_here a.text.now a.tape.now a.op a.many a.called.now c.loop-i.i c.loop-i-test.true c.if-tape-i.true is in
+    omega (arith, e, from_all a.text.now a.tape.now a.op a.many a.called.now, c.loop-i.invariant.1)
 
-pub loop-next-preserved-then-tape-i : goal.loop-next-preserved-then-tape-i
-loop-next-preserved-then-tape-i c =
-    let loop = c.loop-next in
-    let loop-test = c.loop-next-test in
-    let if1 = c.if-tape-i in
-    let wide = c.wide-at in
-    let s = c in
-    let e = from_next s.args.text.now s.args.tape.now s.args.op s.args.many s.args.called.now loop.next loop-test.true
-    if1.true
-    (ap (λ (l : List ℕ). same l s.args.called.now) (sym (c.name.ensures ∙ ap (name_from s.args.text.now) wide.ensures))
-    ∙ sym c.same_bytes.ensures ∙ c.if-same_bytes.false)
-    in
-    (omega arith, omega arith, omega (arith, e, loop.invariant.2))
-
-pub loop-next-preserved : goal.loop-next-preserved
-loop-next-preserved c =
-    let s = c in
-    let e = from_other s.args.text.now s.args.tape.now s.args.op s.args.many s.args.called.now c.loop-next.next c.loop-next-test.true c.if-tape-i.false in
-    (omega arith, omega arith, omega (arith, e, c.loop-next.invariant.2))
+pub loop-i-preserved : goal.loop-i-preserved
+loop-i-preserved c =
+    let a = c.args in
+    let i = c.loop-i.i in
+    elim c.if-tape-i.branch [
+      | then-tape-i+else-same_bytes w ↦
+          let is = ap (λ (l : List ℕ). same l a.called.now) (sym (w.name.ensures ∙ ap (name_from a.text.now) w.wide-at.ensures)) ∙ sym w.same_bytes.ensures ∙ w.if-same_bytes.false in
+          (omega arith, omega (arith, from_next a.text.now a.tape.now a.op a.many a.called.now i c.loop-i-test.true w.if-tape-i.true is, c.loop-i.invariant.1))
+      | else-tape-i w ↦ (omega arith, omega (arith, from_other a.text.now a.tape.now a.op a.many a.called.now i c.loop-i-test.true w.if-tape-i.false, c.loop-i.invariant.1))
+    ]
 
 pub returns : goal.returns
 returns c =
-    let s = c in
-    let e = from_none s.args.text.now s.args.tape.now s.args.op s.args.many s.args.called.now c.loop-next.next c.loop-next-test.false in
-    let a = from_all s.args.text.now s.args.tape.now s.args.op s.args.many s.args.called.now in
-    omega (arith, e, a, c.loop-next.invariant.2)
+    let a = c.args in
+    omega (arith, from_none a.text.now a.tape.now a.op a.many a.called.now c.loop-i.i (omega arith), from_all a.text.now a.tape.now a.op a.many a.called.now, c.loop-i.invariant.1)

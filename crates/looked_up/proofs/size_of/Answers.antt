@@ -1,33 +1,25 @@
 -- `looked_up::size_of` meets its contract: what is left of the items answers as all of them. Assumes nothing.
-use mathlib.Core.Path.{sym, ◌∙◌}
+use mathlib.Core.Path.{sym, ap, ◌∙◌}
 use native.Mathlib.Omega.{arith}
-use Rattle.looked_up.proofs.Numbers.{size_all, size_end, size_other, size_here, size_next}
+use Prim.Native.Nat.{◌+◌}
+use Rattle.looked_up.proofs.Numbers.{Size, size_all, size_end, size_other, size_here, size_next}
 use Rattle.looked_up.proofs.size_of.Goals as goal
-
-pub loop-next-init : goal.loop-next-init
-loop-next-init c = (omega arith, omega arith)
+use Rattle.looked_up.proofs.size_of.Goals.{then-tape-i-eq-MEMORY+else-left-eq0, else-tape-i-eq-MEMORY}
 
 pub returns-then-left-eq0 : goal.returns-then-left-eq0
 returns-then-left-eq0 c =
-    let args = c.args in
-    let loop = c.loop-next in
-    let loop-test = c.loop-next-test in
-    c.size_before.ensures ∙ sym
-    (size_here args.tape.now args.many loop.next loop-test.true loop.left c.if-tape-i-eq-MEMORY.true c.if-left-eq0.true) ∙
-    sym loop.invariant.1 ∙ size_all args.tape.now args.many args.k
+    let a = c.args in
+    let l = c.loop-i in
+    c.size_before.ensures ∙ sym (size_here a.tape.now a.many l.i c.loop-i-test.true l.left c.if-tape-i-eq-MEMORY.true c.if-left-eq0.true) ∙ sym l.invariant ∙ size_all a.tape.now a.many a.k
 
-pub loop-next-preserved-then-tape-i-eq-MEMORY : goal.loop-next-preserved-then-tape-i-eq-MEMORY
-loop-next-preserved-then-tape-i-eq-MEMORY c =
-    let args = c.args in
-    let loop = c.loop-next in
-    let loop-test = c.loop-next-test in (
-      omega arith,
-      loop.invariant.1 ∙ size_next args.tape.now args.many loop.next loop-test.true loop.left c.if-tape-i-eq-MEMORY.true
-          c.if-left-eq0.false,
-    )
-
-pub loop-next-preserved : goal.loop-next-preserved
-loop-next-preserved c = (omega arith, c.loop-next.invariant.1 ∙ size_other c.args.tape.now c.args.many c.loop-next.next c.loop-next-test.true c.loop-next.left c.if-tape-i-eq-MEMORY.false)
+pub loop-i-preserved : goal.loop-i-preserved
+loop-i-preserved c =
+    let a = c.args in
+    let l = c.loop-i in
+    elim c.if-tape-i-eq-MEMORY.branch [
+      | then-tape-i-eq-MEMORY+else-left-eq0 w ↦ l.invariant ∙ size_next a.tape.now a.many l.i c.loop-i-test.true l.left w.if-tape-i-eq-MEMORY.true w.if-left-eq0.false ∙ ap (Size a.tape.now a.many (l.i + 1)) (sym w.left-is)
+      | else-tape-i-eq-MEMORY w ↦ l.invariant ∙ size_other a.tape.now a.many l.i c.loop-i-test.true l.left w.if-tape-i-eq-MEMORY.false ∙ ap (Size a.tape.now a.many (l.i + 1)) (sym w.left-is)
+    ]
 
 pub returns : goal.returns
-returns c = sym (size_end c.args.tape.now c.args.many c.loop-next.next c.loop-next.left c.loop-next-test.false) ∙ sym c.loop-next.invariant.1 ∙ size_all c.args.tape.now c.args.many c.args.k
+returns c = sym (size_end c.args.tape.now c.args.many c.loop-i.i c.loop-i.left (omega arith)) ∙ sym c.loop-i.invariant ∙ size_all c.args.tape.now c.args.many c.args.k

@@ -15,7 +15,7 @@ pub returns-in-At : goal.returns-in-At
 unfolding begins_at
 returns-in-At c =
     let s = c in
-    let b = c.begins-from.ensures ∙ ap (Begins s.args.starts.now s.args.w.types s.args.w.nodes) c.less.ensures in
+    let b = c.begins-from.ensures ∙ ap (Begins s.args.starts.now s.args.w.types s.args.w.nodes) c.saturating_sub.ensures in
     let p = ap (λ (q : ℕ). part s.args.code.now q s.args.w.nodes) b ∙ latest_is s.args.starts.now s.args.code.now s.args.w.types s.args.w.nodes in
     c.narrow.ensures ∙ ap operand (position_at_law _ _ (sym c.in-At.is ∙ c.position_at.ensures.value s.requires.1 ∙ ap (λ (l : List ℕ). positioned (position_of (value_of s.args.widths.now l))) p))
 
@@ -23,6 +23,6 @@ pub returns-in-Outside : goal.returns-in-Outside
 unfolding begins_at
 returns-in-Outside c =
     let s = c in
-    let b = c.begins-from.ensures ∙ ap (Begins s.args.starts.now s.args.w.types s.args.w.nodes) c.less.ensures in
+    let b = c.begins-from.ensures ∙ ap (Begins s.args.starts.now s.args.w.types s.args.w.nodes) c.saturating_sub.ensures in
     let p = ap (λ (q : ℕ). part s.args.code.now q s.args.w.nodes) b ∙ latest_is s.args.starts.now s.args.code.now s.args.w.types s.args.w.nodes in
     position_outside _ (sym c.in-Outside.is ∙ c.position_at.ensures.value s.requires.1 ∙ ap (λ (l : List ℕ). positioned (position_of (value_of s.args.widths.now l))) p)

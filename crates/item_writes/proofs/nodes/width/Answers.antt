@@ -13,6 +13,6 @@ pub returns : goal.returns
 unfolding begins_at
 returns c =
     let s = c in
-    let b = c.begins-from.ensures ∙ ap (Begins s.args.starts.now s.args.w.types s.args.w.nodes) c.less.ensures in
+    let b = c.begins-from.ensures ∙ ap (Begins s.args.starts.now s.args.w.types s.args.w.nodes) c.saturating_sub.ensures in
     let p = ap (λ (q : ℕ). part s.args.code.now q s.args.w.nodes) b ∙ latest_is s.args.starts.now s.args.code.now s.args.w.types s.args.w.nodes in
     c.narrow.ensures ∙ ap operand (c.width_at.ensures.value s.requires.1 ∙ ap (λ (l : List ℕ). width_of (value_of s.args.widths.now l)) p)

@@ -13,4 +13,4 @@ pub returns : goal.returns
 returns c =
     let t = c in
     let l = lines_on t.args.btext.now t.args.table.now t.args.lines.widths t.args.lines.values in
-    c.amount.ensures _ (small_amount c.value-x.result (omega (arith, c.value-x.type_inv)) ∙ ap amount_of (c.value-x.ensures ∙ ap (λ (q : ℕ). value_in l (name_from t.args.text.now q)) c.wide.ensures))
+    c.amount.ensures _ (small_amount c.from.result (omega (arith, c.from.ensures, c.value-x.type_inv)) ∙ ap amount_of (c.from.ensures ∙ c.value-x.ensures ∙ ap (λ (q : ℕ). value_in l (name_from t.args.text.now q)) c.wide.ensures))

@@ -31,7 +31,7 @@ pub returns-else-value-eq1 : goal.returns-else-value-eq1
 unfolding numbers_of
 returns-else-value-eq1 c =
     let args = c.args in
-    λ a s ew et ev u. val_out a s args.op args.place args.value c.in-37.is c.if-value-eq1.false args.vals _ ev c.narrow-in-37.ensures
+    λ a s ew et ev u. val_out a s args.op args.place args.value c.in-37.is c.if-value-eq1.false args.vals _ ev c.narrow-else-value-eq1.ensures
 
 pub returns-in_default : goal.returns-in_default
 returns-in_default c = λ a s ew et ev u. c.plain.ensures ∙ sym (written_plain a s c.args.op c.args.place c.args.value u (omega arith) (omega arith) (omega arith) (omega arith))

@@ -8,7 +8,7 @@ use Rattle.tape.specs.Walk.{op_at, place_at, value_at}
 use Rattle.laws.proofs.Tables.{stored, unstored}
 use Rattle.item_writes.specs.Walk.{without, grown, around_of}
 use Rattle.item_writes.specs.Tables.{waits_in, numbers_of}
-use Rattle.settle.proofs.Turns.{numbers_few, lets_within, vals_within, turn}
+use Rattle.settle.proofs.Turns.{lets_within, vals_within, turn}
 use Rattle.settle.proofs.steps.step.Goals as goal
 
 pub written-w-requires : goal.written-w-requires
@@ -60,8 +60,8 @@ returns c =
     let b = pre.7 in
     let l = the-without.ensures.0 in
     let g = grow.ensures in
-    let few = numbers_few written.result in
-    let out = put.ensures.0 in
+    let few = put.ensures.few in
+    let out = put.ensures.end in
     let o = op_at t.args.tape.now t.args.i in
     let fits : t.args.far.out + length (numbers_of written.result) ≤ length t.args.out.now = omega (arith, few, b.out, pre.6) in
     record {
@@ -76,7 +76,7 @@ returns c =
       };
       kept = record {
         more = omega (arith, out);
-        past = rw (out, put.ensures.1)
+        past = rw (out, put.ensures.put)
             (unstored t.args.out.now (numbers_of written.result) t.args.far.out fits);
       };
       state = turn t.args.text.now t.args.tape.now t.args.many.items t.args.btext.now t.args.table.now t.args.many.lines t.args.widths.now t.args.code.now t.args.starts.now t.args.out.now t.args.i t.args.far _ _ _ _
@@ -89,7 +89,7 @@ returns c =
                 o (place_at t.args.tape.now t.args.i) (value_at t.args.tape.now t.args.i))
                 (the-without.ensures.1 t.args.code.now ∙ ap
                 (λ (n : ℕ). without n (waits_in t.args.code.now t.args.starts.now t.args.far.waits)) (wide.ensures ∙ takes.ensures));
-            wrote = ap₂ (λ (n : ℕ) (x : List ℕ). take n x) out put.ensures.1 ∙ stored t.args.out.now (numbers_of written.result)
+            wrote = ap₂ (λ (n : ℕ) (x : List ℕ). take n x) out put.ensures.put ∙ stored t.args.out.now (numbers_of written.result)
                 t.args.far.out fits ∙ ap (λ (x : List ℕ). take t.args.far.out t.args.out.now ++ x) (written.ensures t.args.out.now);
             lets
                 = lets-after.ensures;
