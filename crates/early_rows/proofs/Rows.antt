@@ -12,7 +12,7 @@ use Rattle.words.specs.Found.{place_told}
 use Rattle.words.specs.Found.{Place}
 use Rattle.std.specs.Prelude.{Some, None, Ok, Err}
 use Rattle.std.specs.Result.{IsErrAnd}
-use Rattle.early_rows.specs.declared.Fault.{Fault}
+use Rattle.language.specs.declared.Refusal.{Refusal}
 use Rattle.early_rows.specs.Verdicts.{Verdict, verdict_of, verdict_by}
 
 abbrev pub row_by : ℕ → Text → Early → Place → Early
@@ -47,12 +47,12 @@ through_mark (Ok u) = Unit {0}
 through_mark (Err f) = ⊥
 
 -- what a `?` hands on
-pub refused : (v : Verdict) (x : Fault) → IsErrAnd v (λ y. y ≡ x) → v ≡ Err x
+pub refused : (v : Verdict) (x : Refusal) → IsErrAnd v (λ y. y ≡ x) → v ≡ Err x
 refused (Ok u) x h = absurd h
 refused (Err y) x h = ap Err h
 
 module _ (n : ℕ) (t : Text) (l : List ℕ) (next : Early) {r : Place} (e : r ≡ place_told (earliest l)) {v : Verdict} (f : v ≡ verdict_by n t r) where
-  pub stops_at_law : {x : Fault} → v ≡ Err x → verdict_of (row n t l next) ≡ Err x
+  pub stops_at_law : {x : Refusal} → v ≡ Err x → verdict_of (row n t l next) ≡ Err x
   unfolding verdict_by verdict_of
   stops_at_law {x} g = ap verdict_of (row_told n t l next e) ∙ go r (sym f ∙ g)
     where

@@ -10,11 +10,11 @@ use Rattle.tape.specs.Row.{Tells}
 use Rattle.bindings.specs.declared.Lines.{Lines}
 use Rattle.row09_bindings.specs.Lines.{Binds}
 use Rattle.words.specs.Found.{Place}
-use Rattle.early_rows.specs.declared.Fault.{Fault}
+use Rattle.language.specs.declared.Refusal.{Refusal}
 
 -- the first fault, or none
 abbrev pub Verdict : Type 0
-Verdict = Result (Unit {0}) Fault
+Verdict = Result (Unit {0}) Refusal
 
 -- rows 6 to 9
 unfoldable pub verdict_of : Early → Verdict

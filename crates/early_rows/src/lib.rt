@@ -11,24 +11,16 @@ ghost use Rattle.bindings.specs.Table.{Lined};
 ghost use Rattle.early_rows.specs.Verdicts.{verdict_by, TextsHeld, FirstTold};
 
 use bindings::Lines;
-use language::Text;
+use language::{Refusal, Text};
 use row09_bindings::{strangers, unsettled};
-
-// A fault of a row, with its text and its place there.
-#[derive(Clone, Copy)]
-pub struct Fault {
-    pub row: u32,
-    pub text: Text,
-    pub place: u32,
-}
 
 // A row goes through where it tells no place.
 #[tactic(auto, unfolding(crate::specs::Verdicts::verdict_by))]
-fn passes(row: u32, text: Text, told: Option<u32>) -> Result<(), Fault>
+fn passes(row: u32, text: Text, told: Option<u32>) -> Result<(), Refusal>
     ensures { result ≡ verdict_by row text told }
 {
     match told {
-        Some(place) => Err(Fault { row, text, place }),
+        Some(place) => Err(Refusal { row, text, place }),
         None => Ok(()),
     }
 }
@@ -41,7 +33,7 @@ pub fn first(
     btext: &[u8],
     table: &[u32],
     lines: Lines,
-) -> Result<(), Fault>
+) -> Result<(), Refusal>
     requires n_in_bounds { (n ≤ length tape.now) × Lined lines table.now }
     requires texts_held { (ws : List Word) × (a : Actor) × (b : Bindings) × TextsHeld text.now tape.now n btext.now table.now lines ws a b }
     ensures { FirstTold text.now tape.now n btext.now table.now lines result }

@@ -15,6 +15,14 @@ pub enum Text {
     Bindings,
 }
 
+// Why texts are refused: the number of document 01's row, the text that it is about, and the place in it.
+#[derive(Clone, Copy)]
+pub struct Refusal {
+    pub row: u32,
+    pub text: Text,
+    pub place: u32,
+}
+
 // The operators that stand before their operand.
 #[derive(Clone, Copy)]
 pub enum Unary {
