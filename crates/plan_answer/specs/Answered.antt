@@ -1,14 +1,21 @@
 -- What is answered of a plan that is put together, and the sum of a list. Assumes nothing: these are definitions.
-use Rattle.std.specs.Prelude.{true, false, List, [], ◌∷◌, ℕ, ◌+◌, ◌*◌, leb, length, take}
+use Rattle.std.specs.Prelude.{Result, Ok, Err, true, false, List, [], ◌∷◌, ℕ, ◌+◌, ◌*◌, leb, length, take}
+use Rattle.language.specs.declared.Text.{Text}
 use Rattle.language.specs.declared.Text.TheVariants.{Actor as InActor}
 use Rattle.row13_plan.specs.Made.{plan_in}
 use Rattle.section_items.specs.Items.{items_of}
-use Rattle.plan_answer.specs.declared.Answer.{Answer}
-use Rattle.plan_answer.specs.declared.Answer.TheVariants.{Plan, Refused}
+use Rattle.plan_answer.specs.declared.Refused.{Refused}
+
+-- the plan's length, or a refusal with its number, its text and its place
+abbrev pub Answer : Type 0
+Answer = Result ℕ Refused
+
+abbrev pub refused : ℕ → Text → ℕ → Answer
+refused row text place = Err (record { row = row; text = text; place = place })
 
 -- row 13: "plan longer than the lent table", at 0; else "Reading writes the plan at the table's start, gives its length and leaves the rest."
 unfoldable pub made_of : List ℕ → List ℕ → Answer
-made_of p table = elim (leb (length p) (length table)) [ true ↦ Plan (length p) | false ↦ Refused 13 InActor 0 ]
+made_of p table = elim (leb (length p) (length table)) [ true ↦ Ok (length p) | false ↦ refused 13 InActor 0 ]
 
 unfoldable pub sums : List ℕ → ℕ
 sums [] = 0

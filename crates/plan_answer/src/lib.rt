@@ -12,11 +12,12 @@ ghost use Rattle.plan_answer.specs.Answered.{sums, made_of, plan_from};
 use language::Text;
 use plan::place;
 
-// The plan's length, or a refusal with its number, its text and its place.
+// Why there is no plan: the number of the row of document 01, the text that it is about, and the place in it.
 #[derive(Clone, Copy)]
-pub enum Answer {
-    Plan(u32),
-    Refused(u32, Text, u32),
+pub struct Refused {
+    pub row: u32,
+    pub text: Text,
+    pub place: u32,
 }
 
 // The lengths of the rules' code together.
@@ -24,23 +25,29 @@ fn total(lengths: &[u32]) -> usize
     requires { length lengths.now ≤ 4294967296 }
     ensures { result ≡ sums lengths.now }
 {
-    let mut sum = 0usize;
-    let mut i = 0;
-    while i < lengths.len() {
-        sum += place(lengths[i]);
-        i += 1;
+    let mut sum = 0;
+    for n in lengths {
+        sum += place(*n);
     }
     sum
 }
 
-// The plan of an actor with no fault, or row 13.
-pub fn made(items: &[u32], many: usize, code: &[u32], lengths: &[u32], plan: &mut [u32]) -> Answer
+// The plan of an actor with no fault: its length, or row 13.
+pub fn made(
+    items: &[u32],
+    many: usize,
+    code: &[u32],
+    lengths: &[u32],
+    plan: &mut [u32],
+) -> Result<u32, Refused>
     requires { (many ≤ most_settled) × (6 * many ≤ length items.now) × (length lengths.now ≤ limits.rules) × (sums lengths.now ≤ length code.now) × (length code.now ≤ 4 * most_settled) }
     ensures answer { result ≡ made_of (plan_from items.now many code.now lengths.now) plan.old }
     ensures table { plan.new ≡ table_with (plan_from items.now many code.now lengths.now) plan.old }
 {
-    match row13_plan::made(items, 6 * many, code, total(lengths), lengths, plan) {
-        row13_plan::Answer::Plan(l) => Answer::Plan(l),
-        row13_plan::Answer::NoRoom => Answer::Refused(13, Text::Actor, 0),
-    }
+    let no_room = Refused {
+        row: 13,
+        text: Text::Actor,
+        place: 0,
+    };
+    row13_plan::made(items, 6 * many, code, total(lengths), lengths, plan).ok_or(no_room)
 }

@@ -1,37 +1,16 @@
 -- The turns of the loops that put numbers: what is left to put, put after what stands, makes the whole. Assumes nothing.
 use mathlib.Core.Path.{◌≡◌, refl, sym, ap, subst, ◌∙◌}
 use mathlib.Core.List.{List, [], ◌∷◌, ◌++◌}
-use Prim.Native.Nat.{ℕ, suc, ◌+◌, ◌≤◌, ◌<◌}
+use Prim.Native.Nat.{ℕ, ◌+◌, ◌≤◌, ◌<◌}
 use native.Mathlib.Omega.{arith}
-use native.Mathlib.Nat.{add-zero}
 use native.Mathlib.Numerals.{add-one}
-use lib.ListN.{length, take, drop, get_or, set, length-append, drop_of_length-le}
-use lib.Seq.{sets, drop-cons, get_or-take, length-take-le}
+use lib.ListN.{length, get_or, set, length-append}
+use lib.Seq.{sets}
 use Rattle.section_items.specs.Items.{counted, picked}
 use Rattle.section_items.specs.Sections.{items_from, item_at, mark_of, width_of, numbers_of, section_of, Few, Put}
 use Rattle.section_items.specs.declared.Section.{Section}
 use Rattle.section_items.proofs.Items.{pick_here, pick_past, pick_end}
 use Rattle.section_items.proofs.Sections.{numbers_long, put_more, put_length}
-
--- ---- the code
-
-module _ (code : List ℕ) (long b : ℕ) where
-  -- the table, with the code from number i on put where it belongs
-  abbrev pub code_left : ℕ → List ℕ → List ℕ
-  code_left i plan = sets plan (b + i) (drop i (take long code))
-
-  pub code_start : (plan : List ℕ) → code_left 0 plan ≡ sets plan b (take long code)
-  code_start plan = rw add-zero
-
-  module _ (h : long ≤ length code) (i : ℕ) (plan : List ℕ) where
-    pub code_more : i < long → code_left (i + 1) (set plan (b + i) (get_or code i 0)) ≡ code_left i plan
-    code_more q =
-        let e : b + (i + 1) ≡ suc (b + i) = omega arith in
-        let f : drop i (take long code) ≡ get_or code i 0 ∷ drop (suc i) (take long code) = drop-cons (take long code) i 0 (let l = length-take-le long code h in omega arith) ∙ rw (get_or-take long code i 0 q) in
-        rw (e, add-one i, f)
-
-    pub code_end : long ≤ i → code_left i plan ≡ plan
-    code_end q = ap (sets plan (b + i)) (drop_of_length-le (take long code) {i = i} (let l = length-take-le long code h in omega arith))
 
 -- ---- a section
 
@@ -50,16 +29,17 @@ module _ {s : Section} {t : List ℕ} {n : ℕ} {lengths : List ℕ} {op : ℕ} 
   pub turn_start : {plan : List ℕ} {at : ℕ} → Turn s t n lengths op plan at 0 0 plan at
   turn_start = record { long = refl; ends = refl; holds = refl }
 
-  pub turn_as : {plan₀ plan plan' : List ℕ} {at₀ at at' k k' i : ℕ} → plan' ≡ plan → at' ≡ at → k' ≡ k → Turn s t n lengths op plan₀ at₀ k i plan at → Turn s t n lengths op plan₀ at₀ k' i plan' at'
-  turn_as {plan₀} {plan} {plan'} {at₀} {at} {at'} {k} {k'} {i} p q r v =
-      subst (λ (x : List ℕ). Turn s t n lengths op plan₀ at₀ k' i x at') (sym p)
-      (subst (λ (x : ℕ). Turn s t n lengths op plan₀ at₀ k' i plan x) (sym q) (subst (λ (x : ℕ). Turn s t n lengths op plan₀ at₀ x i plan at) (sym r) v))
+  pub turn_as : {plan₀ plan plan' : List ℕ} {at₀ at at' k k' i i' : ℕ} → plan' ≡ plan → at' ≡ at → k' ≡ k → i' ≡ i → Turn s t n lengths op plan₀ at₀ k i plan at → Turn s t n lengths op plan₀ at₀ k' i' plan' at'
+  turn_as {plan₀} {plan} {plan'} {at₀} {at} {at'} {k} {k'} {i} {i'} p q r e v =
+      subst (λ (x : List ℕ). Turn s t n lengths op plan₀ at₀ k' i' x at') (sym p)
+      (subst (λ (x : ℕ). Turn s t n lengths op plan₀ at₀ k' i' plan x) (sym q)
+      (subst (λ (x : ℕ). Turn s t n lengths op plan₀ at₀ x i' plan at) (sym r) (subst (λ (x : ℕ). Turn s t n lengths op plan₀ at₀ k x plan at) (sym e) v)))
 
   module _ (f : Few t n) {plan₀ plan : List ℕ} {at₀ at k i : ℕ} (v : Turn s t n lengths op plan₀ at₀ k i plan at) where
     module _ (h : i + 6 ≤ n) where
       pub turn_past : (get_or t i 0 ≡ op → ⊥) → Turn s t n lengths op plan₀ at₀ k (i + 6) plan at
       turn_past e =
-          let q = sym (pick_past t n i f h (numbers_of s lengths) k e) in
+          let q = sym (pick_past t n i f (i + 6) refl h (numbers_of s lengths) k e) in
           record { long = v.long; ends = ap (λ (l : List ℕ). at + length l) q ∙ v.ends; holds = ap (sets plan at) q ∙ v.holds }
 
       module _ (e : get_or t i 0 ≡ op) where
@@ -67,7 +47,7 @@ module _ {s : Section} {t : List ℕ} {n : ℕ} {lengths : List ℕ} {op : ℕ} 
         here = numbers_of s lengths k (item_at t i) (items_from t n (i + 6))
 
         split : left s t n lengths op k i ≡ here ++ left s t n lengths op (k + 1) (i + 6)
-        split = rw (add-one k) (pick_here t n i f h (numbers_of s lengths) k e)
+        split = rw (add-one k) (pick_here t n i f (i + 6) refl h (numbers_of s lengths) k e)
 
         split_long : length (left s t n lengths op k i) ≡ width_of s + length (left s t n lengths op (k + 1) (i + 6))
         split_long = ap length split ∙ length-append here _ ∙ ap (λ (w : ℕ). w + length (left s t n lengths op (k + 1) (i + 6))) (numbers_long s lengths k (item_at t i) (items_from t n (i + 6)))

@@ -10,7 +10,7 @@ use Rattle.settled.specs.Form.{RULE, OR, MEMORY, SIGNED}
 use Rattle.row13_plan.specs.Made.{plan_in, answer_of, table_after}
 use Rattle.section_items.specs.Items.{Item, counted}
 use Rattle.section_items.specs.Sections.{numbers_of, section_of, Put}
-use Rattle.row13_plan.specs.declared.Answer.TheVariants.{Plan, NoRoom}
+use Rattle.std.specs.Prelude.{Some, None}
 use Rattle.section_items.specs.declared.Section.{Section}
 use Rattle.section_items.specs.declared.Section.TheVariants.{Ports, Memories, Groups, Rules}
 use Rattle.section_items.proofs.Sections.{section_long, put_more, put_length}
@@ -55,7 +55,7 @@ module _ {items : List Item} {code lengths : List ℕ} {long : ℕ} {t : List �
     short : length t < length plan
     short = omega (arith, w.size)
 
-    pub short_answer : NoRoom ≡ answer_of plan t
+    pub short_answer : None ≡ answer_of plan t
     unfolding answer_of
     short_answer = sym (simp (answer_of, lt-leb _ _ short))
 
@@ -68,9 +68,9 @@ module _ {items : List Item} {code lengths : List ℕ} {long : ℕ} {t : List �
     roomy : length plan ≤ length t
     roomy = omega (arith, w.size)
 
-    pub whole_answer : Plan m ≡ answer_of plan t
+    pub whole_answer : Some m ≡ answer_of plan t
     unfolding answer_of
-    whole_answer = sym (simp (answer_of, le-leb _ _ roomy) (ap Plan w.size))
+    whole_answer = sym (simp (answer_of, le-leb _ _ roomy) (ap Some w.size))
 
     pub room_ports : 1 + length (section Ports) ≤ length (set t 0 1)
     room_ports = omega (arith, roomy, all, length-set t 0 1)

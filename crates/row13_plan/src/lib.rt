@@ -13,13 +13,6 @@ ghost use Rattle.row13_plan.specs.Made.{plan_in, answer_of, table_after};
 use section_items::{Section, put_item};
 use settled::{MEMORY, OR, RULE, SIGNED};
 
-#[derive(Clone, Copy)]
-pub enum Answer {
-    // The plan has so many numbers.
-    Plan(u32),
-    NoRoom,
-}
-
 // The operation of a section's items.
 fn mark(section: Section) -> u32
     ensures { result ≡ mark_of section }
@@ -38,12 +31,10 @@ fn count(items: &[u32], n: usize, op: u32) -> usize
     ensures { (result ≡ counted op (items_from items.now n 0)) × (result ≤ most_settled) }
 {
     let mut k = 0;
-    let mut i = 0;
-    while i + 6 <= n {
-        if items[i] == op {
+    for i in 0..n / 6 {
+        if items[6 * i] == op {
             k += 1;
         }
-        i += 6;
     }
     k
 }
@@ -65,13 +56,11 @@ fn put_section(
     plan[from] = count(items, n, op) as u32;
     let mut at = from + 1;
     let mut k = 0;
-    let mut i = 0;
-    while i + 6 <= n {
-        if items[i] == op {
-            at = put_item(section, items, n, i, lengths, k, plan, at);
+    for i in 0..n / 6 {
+        if items[6 * i] == op {
+            at = put_item(section, items, n, 6 * i, lengths, k, plan, at);
             k += 1;
         }
-        i += 6;
     }
     at
 }
@@ -82,14 +71,11 @@ fn put_code(code: &[u32], long: usize, plan: &mut [u32], from: usize)
     ensures { plan.new ≡ sets plan.old from (long ∷ take long code.now) }
 {
     plan[from] = long as u32;
-    let mut i = 0;
-    while i < long {
-        plan[from + 1 + i] = code[i];
-        i += 1;
-    }
+    plan[from + 1..from + 1 + long].copy_from_slice(&code[..long]);
 }
 
-// Tests the room first, so that a table that is too short stays as it stood.
+// How many numbers the plan has, where the table has room for them. The room is tested first, so that a table that is too short
+// stays as it stood.
 pub fn made(
     items: &[u32],
     n: usize,
@@ -97,7 +83,7 @@ pub fn made(
     long: usize,
     lengths: &[u32],
     plan: &mut [u32],
-) -> Answer
+) -> Option<u32>
     requires few { Few items.now n }
     requires long_in_bounds { (long ≤ length code.now) × (long ≤ 8 * most_settled) }
     ensures answer { result ≡ answer_of (plan_in (items_of (take n items.now)) (take long code.now) lengths.now) plan.old }
@@ -109,7 +95,7 @@ pub fn made(
     let rules = count(items, n, RULE);
     let whole = 6 + ports + 2 * memories + groups + 3 * rules + long;
     if plan.len() < whole {
-        return Answer::NoRoom;
+        return None;
     }
     plan[0] = 1;
     let a = put_section(Section::Ports, items, n, lengths, plan, 1);
@@ -117,5 +103,5 @@ pub fn made(
     let c = put_section(Section::Groups, items, n, lengths, plan, b);
     let d = put_section(Section::Rules, items, n, lengths, plan, c);
     put_code(code, long, plan, d);
-    Answer::Plan(whole as u32)
+    Some(whole as u32)
 }

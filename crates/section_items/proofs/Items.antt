@@ -34,59 +34,60 @@ module _ (t : List ℕ) (n i : ℕ) (f : Few t n) where
   pub no_item : n < i + 6 → items_from t n i ≡ []
   no_item h = part (drop i (take n t)) (let e = left in omega arith)
 
-  module _ (h : i + 6 ≤ n) where
+  -- j is the place after item i
+  module _ (j : ℕ) (e : j ≡ i + 6) (h : j ≤ n) where
     number : (k : ℕ) → k < 6 → get_or (drop i (take n t)) k 0 ≡ get_or t (i + k) 0
     number k q = get_or-drop i (take n t) k 0 ∙ get_or-take n t (i + k) 0 (omega arith)
 
-    pub item : items_from t n i ≡ item_at t i ∷ items_from t n (i + 6)
+    pub item : items_from t n i ≡ item_at t i ∷ items_from t n j
     item =
-        let a = number 0 (omega arith) in let b = number 2 (omega arith) in let c = number 3 (omega arith) in let d = drop-drop 6 i (take n t) in let z = add-zero i in
-        whole (drop i (take n t)) (let e = left in omega arith) ∙ cc
+        let a = number 0 (omega arith) in let b = number 2 (omega arith) in let c = number 3 (omega arith) in let d = drop-drop 6 i (take n t) ∙ ap (λ (k : ℕ). drop k (take n t)) (sym e) in let z = add-zero i in
+        whole (drop i (take n t)) (let m = left in omega arith) ∙ cc
 
     -- ---- what is counted
 
-    pub count_here : {op : ℕ} → get_or t i 0 ≡ op → counted op (items_from t n i) ≡ suc (counted op (items_from t n (i + 6)))
+    pub count_here : {op : ℕ} → get_or t i 0 ≡ op → counted op (items_from t n i) ≡ suc (counted op (items_from t n j))
     unfolding counted
-    count_here e = rw item (simp (counted, eq-eqb _ _ e))
+    count_here q = rw item (simp (counted, eq-eqb _ _ q))
 
-    pub count_past : {op : ℕ} → (get_or t i 0 ≡ op → ⊥) → counted op (items_from t n i) ≡ counted op (items_from t n (i + 6))
+    pub count_past : {op : ℕ} → (get_or t i 0 ≡ op → ⊥) → counted op (items_from t n i) ≡ counted op (items_from t n j)
     unfolding counted
-    count_past e = rw item (simp (counted, ne_eqb _ _ e))
+    count_past q = rw item (simp (counted, ne_eqb _ _ q))
 
     -- ---- what is picked
 
     module _ {op : ℕ} (give : ℕ → Item → List Item → List ℕ) (k : ℕ) where
-      pub pick_here : get_or t i 0 ≡ op → picked op give k (items_from t n i) ≡ give k (item_at t i) (items_from t n (i + 6)) ++ picked op give (suc k) (items_from t n (i + 6))
+      pub pick_here : get_or t i 0 ≡ op → picked op give k (items_from t n i) ≡ give k (item_at t i) (items_from t n j) ++ picked op give (suc k) (items_from t n j)
       unfolding picked
-      pick_here e = rw item (simp (picked, eq-eqb _ _ e))
+      pick_here q = rw item (simp (picked, eq-eqb _ _ q))
 
-      pub pick_past : (get_or t i 0 ≡ op → ⊥) → picked op give k (items_from t n i) ≡ picked op give k (items_from t n (i + 6))
+      pub pick_past : (get_or t i 0 ≡ op → ⊥) → picked op give k (items_from t n i) ≡ picked op give k (items_from t n j)
       unfolding picked
-      pick_past e = rw item (simp (picked, ne_eqb _ _ e))
+      pick_past q = rw item (simp (picked, ne_eqb _ _ q))
 
     -- ---- the rules of a group
 
     pub rules_group : get_or t i 0 ≡ OR → rules_up_to (items_from t n i) ≡ 0
     unfolding rules_up_to
-    rules_group e = rw item (simp (rules_up_to, eq-eqb _ _ e))
+    rules_group q = rw item (simp (rules_up_to, eq-eqb _ _ q))
 
-    pub rules_here : get_or t i 0 ≡ RULE → rules_up_to (items_from t n i) ≡ suc (rules_up_to (items_from t n (i + 6)))
+    pub rules_here : get_or t i 0 ≡ RULE → rules_up_to (items_from t n i) ≡ suc (rules_up_to (items_from t n j))
     unfolding rules_up_to
-    rules_here e = rw (item, e)
+    rules_here q = rw (item, q)
 
-    pub rules_past : (get_or t i 0 ≡ OR → ⊥) → (get_or t i 0 ≡ RULE → ⊥) → rules_up_to (items_from t n i) ≡ rules_up_to (items_from t n (i + 6))
+    pub rules_past : (get_or t i 0 ≡ OR → ⊥) → (get_or t i 0 ≡ RULE → ⊥) → rules_up_to (items_from t n i) ≡ rules_up_to (items_from t n j)
     unfolding rules_up_to
-    rules_past e q = rw item (simp (rules_up_to, ne_eqb _ _ e, ne_eqb _ _ q))
+    rules_past p q = rw item (simp (rules_up_to, ne_eqb _ _ p, ne_eqb _ _ q))
 
     -- ---- the mask of a rule
 
     pub mask_ruled : (b : ℕ) → get_or t i 0 ≡ RULED → mask_up_to b (items_from t n i) ≡ 0
     unfolding mask_up_to
-    mask_ruled b e = rw item (simp (mask_up_to, eq-eqb _ _ e))
+    mask_ruled b q = rw item (simp (mask_up_to, eq-eqb _ _ q))
 
-    pub mask_more : (b : ℕ) → (get_or t i 0 ≡ RULED → ⊥) → mask_up_to b (items_from t n i) ≡ bit_of b (item_at t i) + mask_up_to b (items_from t n (i + 6))
+    pub mask_more : (b : ℕ) → (get_or t i 0 ≡ RULED → ⊥) → mask_up_to b (items_from t n i) ≡ bit_of b (item_at t i) + mask_up_to b (items_from t n j)
     unfolding mask_up_to
-    mask_more b e = rw item (simp (mask_up_to, ne_eqb _ _ e))
+    mask_more b q = rw item (simp (mask_up_to, ne_eqb _ _ q))
 
   module _ (h : n < i + 6) where
     pub count_end : (op : ℕ) → counted op (items_from t n i) ≡ 0

@@ -24,15 +24,13 @@ fn rules(items: &[u32], n: usize, from: usize) -> u32
     requires from_le_n { from ≤ n }
     ensures { result ≡ rules_up_to (items_from items.now n from) }
 {
-    let mut k = 0u32;
-    let mut i = from;
-    while i + 6 <= n {
-        match items[i] {
+    let mut k = 0;
+    for i in 0..(n - from) / 6 {
+        match items[from + 6 * i] {
             OR => return k,
             RULE => k += 1,
             _ => {}
         }
-        i += 6;
     }
     k
 }
@@ -41,17 +39,12 @@ fn rules(items: &[u32], n: usize, from: usize) -> u32
 fn bit(op: u32, port: u32, listed: u32, wanted: u32) -> u32
     ensures { result ≡ bit_of wanted (record { op = op; a = port; b = listed }) % 2 ^ 32 }
 {
-    if op != PRESENT {
-        return 0;
+    // a port of a greater number has no bit in a mask
+    if op == PRESENT && listed == wanted && port < plan::MASK_BITS {
+        1 << port
+    } else {
+        0
     }
-    if listed != wanted {
-        return 0;
-    }
-    // a mask has no such bit
-    if plan::MASK_BITS <= port {
-        return 0;
-    }
-    1u32 << port
 }
 
 // The mask of the ports that a rule lists as wanted, up to its end.
@@ -61,14 +54,12 @@ fn mask(items: &[u32], n: usize, from: usize, wanted: u32) -> u32
     ensures { result ≡ mask_up_to wanted (items_from items.now n from) % 2 ^ 32 }
 {
     let mut sum = 0u32;
-    let mut i = from;
-    while i + 6 <= n {
-        if items[i] == RULED {
+    for i in 0..(n - from) / 6 {
+        let at = from + 6 * i;
+        if items[at] == RULED {
             return sum;
         }
-        let b = bit(items[i], items[i + 2], items[i + 3], wanted);
-        sum = std::num::wrapping_add_u32(sum, b);
-        i += 6;
+        sum = sum.wrapping_add(bit(items[at], items[at + 2], items[at + 3], wanted));
     }
     sum
 }
@@ -77,7 +68,7 @@ fn mask(items: &[u32], n: usize, from: usize, wanted: u32) -> u32
 fn length_at(lengths: &[u32], k: usize) -> u32
     ensures { result ≡ slice_index lengths.now k }
 {
-    if k < lengths.len() { lengths[k] } else { 0 }
+    lengths.get(k).copied().unwrap_or(0)
 }
 
 // Puts what the item at number i gives its section, with k items of the section before it; the place after it.

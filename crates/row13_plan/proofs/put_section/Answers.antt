@@ -12,7 +12,7 @@ bounds-plan-from c =
     omega (arith, section_room args.section args.items.now args.n args.lengths.now c.mark-op.ensures args.from pre.n_in_bounds)
 
 pub loop-i-init : goal.loop-i-init
-loop-i-init c = (omega arith, omega arith, turn_start)
+loop-i-init c = (omega arith, turn_start)
 
 pub put_item-at-requires : goal.put_item-at-requires
 put_item-at-requires c =
@@ -24,11 +24,11 @@ put_item-at-requires c =
       few = pre.few;
       i_bound = (
         omega arith,
-        turn_room pre.few loop.invariant.2 (omega arith) c.if-items-i.true
+        turn_room pre.few loop.invariant.1 (omega arith) c.if-items-i.true
             (omega (
               arith,
               section_room args.section args.items.now args.n args.lengths.now mark.ensures args.from pre.n_in_bounds,
-              loop.invariant.2.long,
+              loop.invariant.1.long,
               length-set args.plan.now args.from count.result,
             )),
       );
@@ -39,12 +39,12 @@ loop-i-preserved c =
     let pre = c.requires in
     let loop = c.loop-i in
     elim c.if-items-i.branch [
-      | then-items-i w ↦ (omega arith, omega arith, turn_as w.plan-is w.at-is w.k-is (turn_more pre.few loop.invariant.2 (omega arith) w.if-items-i.true w.put_item-at.ensures))
-      | else-items-i w ↦ (omega arith, omega arith, turn_as w.plan-is w.at-is w.k-is (turn_past pre.few loop.invariant.2 (omega arith) w.if-items-i.false))
+      | then-items-i w ↦ (omega arith, turn_as w.plan-is w.at-is w.k-is (omega arith) (turn_more pre.few loop.invariant.1 (omega arith) w.if-items-i.true w.put_item-at.ensures))
+      | else-items-i w ↦ (omega arith, turn_as w.plan-is w.at-is w.k-is (omega arith) (turn_past pre.few loop.invariant.1 (omega arith) w.if-items-i.false))
     ]
 
 pub shape_of-plan : goal.shape_of-plan
-shape_of-plan c = omega (arith, c.loop-i.invariant.2.long, length-set c.args.plan.now c.args.from c.count.result)
+shape_of-plan c = omega (arith, c.loop-i.invariant.1.long, length-set c.args.plan.now c.args.from c.count.result)
 
 pub returns : goal.returns
 returns c =
@@ -52,4 +52,4 @@ returns c =
     let pre = c.requires in
     let mark = c.mark-op in
     section_put args.section args.items.now args.n args.lengths.now mark.ensures pre.few c.count.ensures.0
-    c.loop-i.invariant.2 (omega arith)
+    c.loop-i.invariant.1 (omega arith)

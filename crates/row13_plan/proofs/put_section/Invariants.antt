@@ -1,10 +1,7 @@
 -- `row13_plan::put_section` meets its contract: what the items to come give, put after what stands, makes the whole section. Assumes nothing.
-use Prim.Native.Nat.{◌≤◌, ◌-◌, ◌*◌}
+use Prim.Native.Nat.{◌≤◌, ◌*◌}
 use Rattle.row13_plan.proofs.Turns.{Turn}
 use Rattle.row13_plan.proofs.put_section.Given as goal
 
 abbrev pub invariant-loop-i : goal.invariant-loop-i
-invariant-loop-i l = (l.i ≤ l.n) × (6 * l.k ≤ l.i) × Turn l.section l.items l.n l.lengths l.op l.initial.plan l.initial.at l.k l.i l.plan l.at
-
-abbrev pub decreases-loop-i : goal.decreases-loop-i
-decreases-loop-i l = l.n - l.i
+invariant-loop-i l = (l.k ≤ l.i) × Turn l.section l.items l.n l.lengths l.op l.initial.plan l.initial.at l.k (6 * l.i) l.plan l.at
