@@ -16,15 +16,21 @@ use Rattle.language.specs.declared.Refusal.{Refusal}
 abbrev pub Verdict : Type 0
 Verdict = Result (Unit {0}) Refusal
 
+abbrev pub Stopped : ℕ → Text → ℕ → Verdict
+Stopped row text place = Err (record { row = row; text = text; place = place })
+
+abbrev pub Through : Verdict
+Through = Ok tt
+
 -- rows 6 to 9
 unfoldable pub verdict_of : Early → Verdict
-verdict_of (stopped n t p) = Err (record { row = n; text = t; place = p })
-verdict_of (through a b) = Ok tt
+verdict_of (stopped n t p) = Stopped n t p
+verdict_of (through a b) = Through
 
 -- one row, by the place that it tells
 unfoldable pub verdict_by : ℕ → Text → Place → Verdict
-verdict_by n t (Some p) = Err (record { row = n; text = t; place = p })
-verdict_by n t None = Ok tt
+verdict_by n t (Some p) = Stopped n t p
+verdict_by n t None = Through
 
 -- a tape and a table that hold an actor and its bindings
 pub record TextsHeld (text t : List ℕ) (n : ℕ) (btext table : List ℕ) (lines : Lines) (ws : List Word) (a : Actor) (b : Bindings) : Type 0 where

@@ -4,18 +4,21 @@ use Rattle.language.specs.declared.Text.{Text}
 use Rattle.language.specs.declared.Text.TheVariants.{Actor as InActor}
 use Rattle.row13_plan.specs.Made.{plan_in}
 use Rattle.section_items.specs.Items.{items_of}
-use Rattle.plan_answer.specs.declared.Refused.{Refused}
+use Rattle.language.specs.declared.Refusal.{Refusal}
 
 -- the plan's length, or a refusal with its number, its text and its place
 abbrev pub Answer : Type 0
-Answer = Result ℕ Refused
+Answer = Result ℕ Refusal
 
-abbrev pub refused : ℕ → Text → ℕ → Answer
-refused row text place = Err (record { row = row; text = text; place = place })
+abbrev pub Plan : ℕ → Answer
+Plan n = Ok n
+
+abbrev pub Refused : ℕ → Text → ℕ → Answer
+Refused row text place = Err (record { row = row; text = text; place = place })
 
 -- row 13: "plan longer than the lent table", at 0; else "Reading writes the plan at the table's start, gives its length and leaves the rest."
 unfoldable pub made_of : List ℕ → List ℕ → Answer
-made_of p table = elim (leb (length p) (length table)) [ true ↦ Ok (length p) | false ↦ refused 13 InActor 0 ]
+made_of p table = elim (leb (length p) (length table)) [ true ↦ Plan (length p) | false ↦ Refused 13 InActor 0 ]
 
 unfoldable pub sums : List ℕ → ℕ
 sums [] = 0

@@ -9,16 +9,11 @@ ghost use Rattle.std.specs.Prelude.{◌≡◌, ◌*◌, ◌≤◌, length};
 ghost use Rattle.row13_plan.specs.Made.{table_after as table_with};
 ghost use Rattle.plan_answer.specs.Answered.{sums, made_of, plan_from};
 
-use language::Text;
+use language::{Refusal, Text};
 use plan::place;
 
-// Why there is no plan: the number of the row of document 01, the text that it is about, and the place in it.
-#[derive(Clone, Copy)]
-pub struct Refused {
-    pub row: u32,
-    pub text: Text,
-    pub place: u32,
-}
+// The plan's length, or why there is no plan.
+pub type Answer = Result<u32, Refusal>;
 
 // The lengths of the rules' code together.
 fn total(lengths: &[u32]) -> usize
@@ -39,12 +34,12 @@ pub fn made(
     code: &[u32],
     lengths: &[u32],
     plan: &mut [u32],
-) -> Result<u32, Refused>
+) -> Answer
     requires { (many ≤ most_settled) × (6 * many ≤ length items.now) × (length lengths.now ≤ limits.rules) × (sums lengths.now ≤ length code.now) × (length code.now ≤ 4 * most_settled) }
     ensures answer { result ≡ made_of (plan_from items.now many code.now lengths.now) plan.old }
     ensures table { plan.new ≡ table_with (plan_from items.now many code.now lengths.now) plan.old }
 {
-    let no_room = Refused {
+    let no_room = Refusal {
         row: 13,
         text: Text::Actor,
         place: 0,

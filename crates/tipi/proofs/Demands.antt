@@ -35,8 +35,8 @@ use Rattle.row13_plan.specs.Made as Making
 use Rattle.tipi.specs.Told.{answer_of, table_after, Read}
 use Rattle.plan_answer.specs.Answered.{made_of}
 use Rattle.tipi.specs.Demands.{RefusedCycle, Demand1, Demand2, HasWidth, Fulfils, LeastWidths, DemandWidths, Means, DemandLine, Demands}
-use Rattle.plan_answer.specs.declared.Answer.{Answer}
-use Rattle.plan_answer.specs.declared.Answer.TheVariants.{Plan, Refused}
+use Rattle.plan_answer.specs.Answered.{Answer}
+use Rattle.plan_answer.specs.Answered.{Plan, Refused}
 use Rattle.tipi.proofs.Answers.{answers}
 use Rattle.tipi.proofs.Theorems.{reads_once, is_plan, read_given}
 

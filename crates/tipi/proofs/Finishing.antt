@@ -49,8 +49,8 @@ use Rattle.row10_widths.specs.declared.Answer as resolved_answer
 use Rattle.std.specs.Prelude.{Some, None}
 use Rattle.tipi.specs.Told.{answer_of, table_after, Told, goes, After, Heard, Settled, late_of}
 use Rattle.plan_answer.specs.Answered.{made_of, sums}
-use Rattle.plan_answer.specs.declared.Answer.{Answer}
-use Rattle.plan_answer.specs.declared.Answer.TheVariants.{Refused}
+use Rattle.plan_answer.specs.Answered.{Answer}
+use Rattle.plan_answer.specs.Answered.{Refused}
 use Rattle.early_rows.proofs.Rows.{no_fault}
 
 -- ---- lengths in a table of zeros

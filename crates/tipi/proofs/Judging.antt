@@ -19,30 +19,22 @@ use Rattle.bindings.specs.declared.Lines.{Lines}
 use Rattle.row10_widths.specs.Row.{Passed}
 use Rattle.tipi.specs.Told.{answer_of, table_after, stops, After, Heard}
 use Rattle.early_rows.specs.Verdicts.{verdict_of, TextsHeld}
-use Rattle.plan_answer.specs.declared.Answer.{Answer}
-use Rattle.plan_answer.specs.declared.Answer.TheVariants.{Plan, Refused}
-use Rattle.early_rows.specs.declared.Verdict.{Verdict}
-use Rattle.early_rows.specs.declared.Verdict.TheVariants.{Stopped, Through}
+use Rattle.plan_answer.specs.Answered.{Answer}
+use Rattle.plan_answer.specs.Answered.{Plan, Refused}
+use Rattle.early_rows.specs.Verdicts.{Verdict, Stopped, Through}
+use Rattle.std.specs.Prelude.{Ok, Err}
 
 -- ---- rows 6 to 9 together
 
 -- a refusal as `read` says it
 abbrev refuse : Verdict → Answer
-refuse (Stopped n t p) = Refused n t p
-refuse Through = Plan 0
+refuse (Err why) = Err why
+refuse (Ok u) = Plan 0
 
 pub stopped_after : (e : Early) {n p : ℕ} {t : Text} (before : List ℕ) → Stopped n t p ≡ verdict_of e → After e (Refused n t p) before before
 unfolding verdict_of answer_of table_after
 stopped_after (stopped m u q) before f = record { what = refused m u q; follows = stops; told = record { answer = ap refuse f; table = refl } }
-stopped_after (through a b) before f = absurd (subst through_mark f tt)
-  where
-    through_mark : Verdict → Type 0
-    through_mark (Stopped n t p) = Unit {0}
-    through_mark Through = ⊥
-
-abbrev stopped_mark : Verdict → Type 0
-stopped_mark (Stopped n t p) = ⊥
-stopped_mark Through = Unit {0}
+stopped_after (through a b) before f = cc
 
 row_through : (n : ℕ) (t : Text) (l : List ℕ) (next : Early) → Through ≡ verdict_of (row n t l next) → (l ≡ []) × (Through ≡ verdict_of next) × (row n t l next ≡ next)
 unfolding row earliest verdict_of
@@ -50,8 +42,8 @@ row_through n t [] next f = (refl, f, refl)
 row_through n t (p ∷ l) next f = absurd (go (earliest l) f)
   where
     go : (o : Option ℕ) → Through ≡ verdict_of (elim (elim o as (λ (x : Option ℕ). Option ℕ) [ none ↦ some p | some q ↦ some (min p q) ]) as (λ (x : Option ℕ). Early) [ some q ↦ stopped n t q | none ↦ next ]) → ⊥
-    go none z = subst stopped_mark z tt
-    go (some q) z = subst stopped_mark z tt
+    go none z = cc
+    go (some q) z = cc
 
 -- what rows 6 to 9 leave where none refuses
 pub record Clean (ws : List Word) (a : Actor) (b : Bindings) : Type 0 where

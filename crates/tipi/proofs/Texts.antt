@@ -33,8 +33,8 @@ use Rattle.row09_bindings.specs.Lines.{Binds}
 use Rattle.row09_bindings.proofs.Tables.{Filled, read_fills}
 use Rattle.tipi.specs.Told.{answer_of, table_after, Follows, stops, goes, After, Read}
 use Rattle.early_rows.specs.Verdicts.{TextsHeld}
-use Rattle.plan_answer.specs.declared.Answer.{Answer}
-use Rattle.plan_answer.specs.declared.Answer.TheVariants.{Refused}
+use Rattle.plan_answer.specs.Answered.{Answer}
+use Rattle.plan_answer.specs.Answered.{Refused}
 
 -- a refusal is met as it stands
 pub refusal : (n : ℕ) (t : Text) (p : ℕ) {e : Early} (before : List ℕ) → e ≡ stopped n t p → After e (Refused n t p) before before

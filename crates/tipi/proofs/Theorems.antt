@@ -24,8 +24,8 @@ use Rattle.plan_of.proofs.Theorems.{reads_planned}
 use Rattle.row13_plan.specs.Made as Making
 use Rattle.tipi.specs.Told.{answer_of, table_after, Read}
 use Rattle.plan_answer.specs.Answered.{made_of}
-use Rattle.plan_answer.specs.declared.Answer.{Answer}
-use Rattle.plan_answer.specs.declared.Answer.TheVariants.{Plan, Refused}
+use Rattle.plan_answer.specs.Answered.{Answer}
+use Rattle.plan_answer.specs.Answered.{Plan, Refused}
 
 -- ---- one way
 

@@ -32,8 +32,8 @@ use Rattle.plan_of.specs.PlanOf.{plan_of}
 use Rattle.plan_of.specs.Theorems.{RunTables, SameGiven, Alike}
 use Rattle.lines.specs.Bounds.{of_text, LineStands, IsLineAt}
 use Rattle.tipi.specs.Told.{Read}
-use Rattle.plan_answer.specs.declared.Answer.{Answer}
-use Rattle.plan_answer.specs.declared.Answer.TheVariants.{Plan, Refused}
+use Rattle.plan_answer.specs.Answered.{Answer}
+use Rattle.plan_answer.specs.Answered.{Plan, Refused}
 
 -- ---- 1. "All input is met with a result .. A refusal gives its number, a reading refusal also its place, and leaves plan, memory and outputs as they stood."
 

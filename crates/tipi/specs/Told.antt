@@ -15,8 +15,8 @@ use Rattle.bindings.specs.declared.Lines.{Lines}
 use Rattle.row10_widths.specs.Row.{Passed, Asked}
 use Rattle.settled.specs.Settled.{settled_of}
 use Rattle.row13_plan.specs.Made.{table_after as table_with}
-use Rattle.plan_answer.specs.declared.Answer.{Answer}
-use Rattle.plan_answer.specs.declared.Answer.TheVariants.{Refused}
+use Rattle.plan_answer.specs.Answered.{Answer}
+use Rattle.plan_answer.specs.Answered.{Refused}
 use Rattle.plan_answer.specs.Answered.{made_of}
 use Rattle.early_rows.specs.Verdicts.{TextsHeld}
 

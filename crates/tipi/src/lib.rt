@@ -4,6 +4,7 @@
 #![tactic(auto)]
 
 pub use cycle::{cycle, run};
+pub use language::Refusal;
 pub use lines::line;
 pub use plan_answer::Answer;
 
@@ -20,12 +21,12 @@ ghost use Rattle.bindings.specs.Table.{Lined};
 ghost use Rattle.row09_bindings.specs.Lines.{Binds};
 ghost use Rattle.tipi.specs.Told.{Read, After, JudgedTold};
 ghost use Rattle.early_rows.specs.Verdicts.{TextsHeld};
+ghost use Rattle.plan_answer.specs.Answered.{Refused};
 
-use bindings::Lines;
-use early_rows::{Verdict, first};
+use bindings::{Fault, Lines};
+use early_rows::first;
 use language::Text;
 use plans::planned;
-use syntax::Said;
 
 // Rows 6 to 13, of an actor that the grammar takes.
 fn judged(
@@ -41,10 +42,8 @@ fn judged(
     requires texts_held { (ws : List Word) × (a : Actor) × (b : Bindings) × TextsHeld text.now tape.now n btext.now table.now lines ws a b }
     ensures { JudgedTold text.now tape.now n btext.now table.now lines result plan.old plan.new }
 {
-    match first(text, tape, n, btext, table, lines) {
-        Verdict::Stopped(row, which, place) => Answer::Refused(row, which, place),
-        Verdict::Through => planned(text, tape, n, btext, table, lines, plan),
-    }
+    first(text, tape, n, btext, table, lines)?;
+    planned(text, tape, n, btext, table, lines, plan)
 }
 
 // Rows 3 to 13, with the lines of the bindings in a table.
@@ -54,10 +53,8 @@ fn worded(text: &[u8], btext: &[u8], table: &[u32], lines: Lines, plan: &mut [u3
     ensures { (b : Bindings) → Binds btext.now table.now lines b → After (reading_worded text.now b) result plan.old plan.new }
 {
     let mut tape = [0u32; tape::LENGTH];
-    match syntax::read(text, &mut tape) {
-        Said::Tape(n) => judged(text, &tape, n as usize, btext, table, lines, plan),
-        Said::Refused(row, place) => Answer::Refused(row, Text::Actor, place),
-    }
+    let n = syntax::read(text, &mut tape)? as usize;
+    judged(text, &tape, n, btext, table, lines, plan)
 }
 
 // An actor's text with its bindings, read into a plan at the start of a table.
@@ -65,22 +62,23 @@ pub fn read(text: &[u8], bindings: &[u8], plan: &mut [u32]) -> Answer
     ensures { Read text.now bindings.now result plan.old plan.new }
 {
     if (language::Actor::BYTES as usize) < text.len() {
-        return Answer::Refused(1, Text::Actor, language::Actor::BYTES);
+        return refused(1, Text::Actor, language::Actor::BYTES);
     }
     if (language::Bindings::BYTES as usize) < bindings.len() {
-        return Answer::Refused(1, Text::Bindings, language::Bindings::BYTES);
+        return refused(1, Text::Bindings, language::Bindings::BYTES);
     }
     let mut table = [0u32; bindings::NUMBERS];
     match bindings::read(bindings, &mut table) {
-        bindings::Answer::Bound(widths, values) => {
-            let lines = Lines {
-                widths: widths as usize,
-                values: values as usize,
-            };
-            worded(text, bindings, &table, lines, plan)
-        }
-        bindings::Answer::Wrong(p) => Answer::Refused(2, Text::Bindings, p),
+        Ok(lines) => worded(text, bindings, &table, lines, plan),
+        Err(Fault::Wrong(p)) => refused(2, Text::Bindings, p),
         // a text within its limit has room in this table
-        bindings::Answer::NoRoom => Answer::Refused(2, Text::Bindings, 0),
+        Err(Fault::NoRoom) => refused(2, Text::Bindings, 0),
     }
+}
+
+// There is no plan, and why.
+fn refused(row: u32, text: Text, place: u32) -> Answer
+    ensures { result ≡ Refused row text place }
+{
+    Err(Refusal { row, text, place })
 }

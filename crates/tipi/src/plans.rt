@@ -9,6 +9,7 @@ ghost use Rattle.language.specs.Sizes.{Setting};
 ghost use Rattle.bindings.specs.Table.{Lined};
 ghost use Rattle.tipi.specs.Told.{Told, Heard, Settled, late_of, PlannedTold, SizedTold};
 
+use crate::refused;
 use bindings::Lines;
 use language::Text;
 use plan_answer::{Answer, made};
@@ -32,9 +33,9 @@ fn finished(items: &[u32], many: usize, plan: &mut [u32]) -> Answer
     let mut code = [0u32; CODE];
     let mut lengths = [0u32; RULES];
     match row11_sizes::fault(items, many, &mut code, &mut lengths) {
-        Some(p) => Answer::Refused(11, Text::Actor, p),
+        Some(p) => refused(11, Text::Actor, p),
         None => match row12_presence::fault(items, many) {
-            Some(p) => Answer::Refused(12, Text::Actor, p),
+            Some(p) => refused(12, Text::Actor, p),
             None => made(items, many, &code, &lengths, plan),
         },
     }
@@ -86,6 +87,6 @@ pub fn planned(
             &widths[..w],
             plan,
         ),
-        None => Answer::Refused(10, Text::Actor, 0),
+        None => refused(10, Text::Actor, 0),
     }
 }

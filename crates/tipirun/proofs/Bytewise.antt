@@ -10,8 +10,8 @@ use lib.ListN.{length, get_or, drop, length-append, drop_of_length-le}
 use lib.Seq.{sets, drop-cons}
 use Rattle.language.specs.Reading.{Answer}
 use Rattle.tipi.specs.Told.{answer_of}
-use Rattle.plan_answer.specs.declared.Answer.{Answer as Told}
-use Rattle.plan_answer.specs.declared.Answer.TheVariants.{Plan, Refused}
+use Rattle.plan_answer.specs.Answered.{Answer as Told}
+use Rattle.plan_answer.specs.Answered.{Plan, Refused}
 use Rattle.figures.specs.declared.Stage.{Stage}
 use Rattle.figures.specs.declared.Stage.TheVariants.{ActorCount, Actor, BindingsCount, Bindings, CycleCount, Line, Through, Wrong, Stopped}
 use Rattle.figures.specs.declared.State.{State}

@@ -17,8 +17,8 @@ use Rattle.language.specs.Worked.{is_bad, line, Input, counted, input_of, answer
 use Rattle.plan_of.specs.PlanOf.{plan_of}
 use Rattle.tipi.specs.Told.{answer_of, table_after}
 use Rattle.plan_answer.specs.Answered.{made_of}
-use Rattle.plan_answer.specs.declared.Answer.{Answer as Told}
-use Rattle.plan_answer.specs.declared.Answer.TheVariants.{Plan, Refused}
+use Rattle.plan_answer.specs.Answered.{Answer as Told}
+use Rattle.plan_answer.specs.Answered.{Plan, Refused}
 use Rattle.figures.specs.declared.Stage.TheVariants.{Actor, BindingsCount, Bindings, CycleCount, Stopped}
 use Rattle.figures.specs.declared.State.{State}
 use Rattle.figures.specs.States.{start_of}

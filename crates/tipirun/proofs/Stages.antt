@@ -14,8 +14,8 @@ use Rattle.figures.specs.declared.State.{State}
 use Rattle.figures.specs.States.{start_of}
 use Rattle.tipirun.specs.Reading.{planned_of, judged_of, Judged}
 use Rattle.tipi.specs.Told.{answer_of, table_after, Read}
-use Rattle.plan_answer.specs.declared.Answer.{Answer as Told}
-use Rattle.plan_answer.specs.declared.Answer.TheVariants.{Plan, Refused}
+use Rattle.plan_answer.specs.Answered.{Answer as Told}
+use Rattle.plan_answer.specs.Answered.{Plan, Refused}
 use Rattle.tipirun.specs.Machine.{passed_at, passed_of, whole, at_bindings, plan_passed, Judges, StagePassed}
 use Rattle.input_bytes.proofs.Endings.{take_least}
 

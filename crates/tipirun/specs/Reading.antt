@@ -3,8 +3,8 @@ use Rattle.std.specs.Prelude.{◌≡◌, false, List, ℕ}
 use Rattle.language.specs.Reading as Reading
 use Rattle.language.specs.Reading.{Reads}
 use Rattle.tipi.specs.Told.{answer_of, table_after}
-use Rattle.plan_answer.specs.declared.Answer.{Answer}
-use Rattle.plan_answer.specs.declared.Answer.TheVariants.{Plan, Refused}
+use Rattle.plan_answer.specs.Answered.{Answer}
+use Rattle.plan_answer.specs.Answered.{Plan, Refused}
 use Rattle.figures.specs.declared.Stage.TheVariants.{CycleCount, Stopped}
 use Rattle.figures.specs.declared.State.{State}
 use Rattle.figures.specs.States.{start_of}

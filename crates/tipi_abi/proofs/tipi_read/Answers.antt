@@ -5,8 +5,8 @@ use Prim.Native.Nat.{ℕ}
 use lib.ListN.{set}
 use Rattle.language.specs.declared.Text.{Text}
 use Rattle.tipi.specs.Told.{Read}
-use Rattle.plan_answer.specs.declared.Answer.{Answer}
-use Rattle.plan_answer.specs.declared.Answer.TheVariants.{Plan, Refused}
+use Rattle.plan_answer.specs.Answered.{Answer}
+use Rattle.plan_answer.specs.Answered.{Plan, Refused}
 use Rattle.tipi_abi.specs.Numbers.{row_of, place_of, number_of, text_of, Numbered}
 use Rattle.tipi_abi.proofs.tipi_read.Goals as goal
 
