@@ -8,11 +8,9 @@ mod reading;
 pub use readers::Tape;
 pub use reading::read;
 
-// What reading a text comes to.
+// Why a text is refused: the number of the row, and the place.
 #[derive(Clone, Copy)]
-pub enum Said {
-    // The tape holds the actor, in so many numbers.
-    Tape(u32),
-    // The number of the row that refuses, and the place.
-    Refused(u32, u32),
+pub struct Refused {
+    pub row: u32,
+    pub place: u32,
 }
