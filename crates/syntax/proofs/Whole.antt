@@ -1,13 +1,14 @@
 -- The whole text: the table that holds its words, the verdict on them, and what is said of it. Assumes nothing.
 use mathlib.Core.Path.{◌≡◌, refl, sym, ap, subst, ◌∙◌}
 use mathlib.Core.Bool.{Bool, true, false}
-use mathlib.Core.List.{List, [], ◌∷◌}
+use mathlib.Core.List.{List, [], ◌∷◌, ◌++◌}
 use mathlib.Core.Option.{Option, none, some}
 use Prim.Native.Nat.{ℕ, zero, suc, ◌+◌, ◌*◌, ◌-◌, ◌≤◌, ◌<◌}
 use native.Mathlib.Omega.{arith}
 use native.Mathlib.Numerals.{add-one}
 use lib.Dec.{ltb}
 use lib.ListN.{length, get_or, set, take, drop, length-set, length-drop, drop_of_length-le, get_or-append}
+use Rattle.std.proofs.lemmas.List.{length-take-le}
 use lib.Seq.{sets, sets-eq, length-sets, take_at, take-suc, drop-cons, get_or-set_same, get_or-set_other}
 use borrow.Author.Tests.{lt-ltb, le-ltb, le-leb, lt-leb, ltb-true, ltb-false}
 use Rattle.language.specs.Text.{earliest}
@@ -28,15 +29,14 @@ use Rattle.words.proofs.Whole.{clash, length_table, room}
 use Rattle.words.proofs.Runs.{all_runs, few_words}
 use Rattle.tape.specs.Tape.{flats, flat_group, flat_actor}
 use Rattle.readers.specs.Marks.{count, place_at, Marked}
-use Rattle.readers.specs.Meets.{On, Moved, Agrees, read, fault as faulty, Closes}
+use Rattle.readers.specs.Meets.{On, Moved, Agrees, read, fault as faulty, Out, Finds, Lacks}
 use Rattle.head_reader.specs.Heads.{Head, head_p, flat_head, actor_of, IsHead}
 use Rattle.name_marks.specs.Marking.{WordsHeld, Taped, Remarked, places_on, runs_at, memories_on}
-use Rattle.syntax.specs.Read.{tree_said, words_said, said_of, tree_after, words_after, tape_after, Filed, Ready, Listed, groups_p, Judged, accepted, refused, IsEnding, IsTree, IsParsed, place_or}
-use Rattle.readers.specs.declared.Out.{Out}
-use Rattle.readers.specs.declared.Out.TheVariants.{At, Bad}
-use Rattle.syntax.specs.declared.Said.TheVariants.{Tape, Refused}
-use Rattle.readers.proofs.Laws.{on_more, on_as, moved_at_law, moved_bad, agrees_as}
-use Rattle.readers.proofs.Spells.{until_at, until_bad}
+use Rattle.syntax.specs.Read.{Said, refusal, tree_said, words_said, said_of, tree_after, words_after, tape_after, Filed, Ready, Listed, groups_p, Judged, accepted, refused, IsEnding, IsTree, IsParsed, place_or}
+use Rattle.std.specs.Prelude.{Ok, Err}
+use Rattle.readers.specs.declared.Misfit.{Misfit}
+use Rattle.readers.proofs.Laws.{on_more}
+use Rattle.readers.proofs.Spells.{until_ok, until_missed, until_err}
 use Rattle.readers.proofs.Fixed.{s_unbrace}
 use Rattle.name_marks.proofs.Marked.{held_again, marked_of, same_count}
 use Rattle.syntax.proofs.Heading.{head_memories, actor_parts}
@@ -131,7 +131,7 @@ module _ {text w : List ℕ} {n : ℕ} (L : Listed text w n) where
         go none z = z
         go (some r) z = clash (let y = ap place_told z in let v = told in cc)
 
-    pub left_said : {p : ℕ} → o ≡ AtPlace p → Refused 4 p ≡ words_said text
+    pub left_said : {p : ℕ} → o ≡ AtPlace p → refusal 4 p ≡ words_said text
     unfolding words_said
     left_said q = sym (simp (words_said, L.lexed, first_left q))
 
@@ -185,7 +185,7 @@ module _ (text t : List ℕ) (h : length text ≤ 8192) (i : length t ≡ 32769)
       go (words ws) f = clash (cc)
       go (bad_at r) f = clash (cc)
 
-  pub bad_said : {p : ℕ} → Err (BadWord p) ≡ found_of text t → Refused 3 p ≡ words_said text
+  pub bad_said : {p : ℕ} → Err (BadWord p) ≡ found_of text t → refusal 3 p ≡ words_said text
   unfolding words_said
   bad_said e = sym (simp (words_said, bad_word e))
 
@@ -198,7 +198,7 @@ module _ (text : List ℕ) where
   unfolding said_of
   short_said h = sym (simp (said_of, le-leb _ _ h))
 
-  pub long_said : 8192 < length text → Refused 1 8192 ≡ said_of text
+  pub long_said : 8192 < length text → refusal 1 8192 ≡ said_of text
   unfolding said_of
   long_said h = sym (simp (said_of, lt-leb _ _ h))
 
@@ -253,21 +253,21 @@ whole_fault ws x h = let a = length-drop x ws in omega arith
 
 -- no word is left; one is; and a fault
 module _ {ws : List Word} {s : List ℕ} where
-  pub judged_end : {t' : List ℕ} {u : Res Actor} {x m : ℕ} → Agrees flat_actor ws 0 s u (At x m) t' → length ws ≤ x → Judged s (whole (length ws) u) (At x m) t'
+  pub judged_end : {t' : List ℕ} {u : Res Actor} {x m : ℕ} → Agrees flat_actor ws 0 s u (Ok (x, m)) t' → length ws ≤ x → Judged s (whole (length ws) u) (Ok (x, m)) t'
   unfolding whole
   judged_end (read on) h = rw (drop_of_length-le ws h) (accepted on)
 
-  pub judged_more : {t' : List ℕ} {u : Res Actor} {x m : ℕ} → Agrees flat_actor ws 0 s u (At x m) t' → x < length ws → Judged s (whole (length ws) u) (Bad x) t'
+  pub judged_more : {t' : List ℕ} {u : Res Actor} {x m : ℕ} → Agrees flat_actor ws 0 s u (Ok (x, m)) t' → x < length ws → Judged s (whole (length ws) u) (Err (record { at = x })) t'
   unfolding whole
   judged_more {t'} (read {e = e} {x = x} on) h = go (drop x ws) refl (whole_fault ws x (omega arith))
     where
-      go : (l : List Word) → drop x ws ≡ l → length ws - length (drop x ws) ≡ x → Judged s (whole (length ws) (ok e (drop x ws))) (Bad x) t'
+      go : (l : List Word) → drop x ws ≡ l → length ws - length (drop x ws) ≡ x → Judged s (whole (length ws) (ok e (drop x ws))) (Err (record { at = x })) t'
       go [] q z = absurd (let a = length-drop x ws in let b = ap length q in omega arith)
-      go (y ∷ r) q z = rw q (subst (λ (i : ℕ). Judged s (fault i) (Bad x) t') (sym (ap (λ (l : List Word). length ws - length l) (sym q) ∙ z)) refused)
+      go (y ∷ r) q z = rw q (subst (λ (i : ℕ). Judged s (fault i) (Err (record { at = x })) t') (sym (ap (λ (l : List Word). length ws - length l) (sym q) ∙ z)) refused)
 
-  pub judged_bad : {t' : List ℕ} {u : Res Actor} {i : ℕ} → Agrees flat_actor ws 0 s u (Bad i) t' → i ≤ length ws → Judged s (whole (length ws) u) (Bad i) t'
+  pub judged_bad : {t' : List ℕ} {u : Res Actor} {e : Misfit} → Agrees flat_actor ws 0 s u (Err e) t' → e.at ≤ length ws → Judged s (whole (length ws) u) (Err e) t'
   unfolding whole
-  judged_bad {t'} (faulty {i = i}) h = subst (λ (j : ℕ). Judged s (fault j) (Bad i) t') (sym (whole_fault ws i h)) refused
+  judged_bad {t'} (faulty {e = e}) h = subst (λ (j : ℕ). Judged s (fault j) (Err e) t') (sym (whole_fault ws e.at h)) refused
 
 -- ---- what is on the tape
 
@@ -277,12 +277,12 @@ on_length {t} {l = l} {n = n} o = ap length o.holds ∙ length-sets t n l
 on_taken : {t t' l : List ℕ} {m : ℕ} → On t 0 l m t' → m ≤ length t → take m t' ≡ l
 on_taken {t} {t'} {l} {m} o h = ap (take m) (o.holds ∙ sets-eq l t 0 (let e = o.ends in omega arith)) ∙ take_at l (drop (0 + length l) t) m (let e = o.ends in omega arith)
 
--- one number more
-pub on_next : {s t : List ℕ} {i : ℕ} (l : List ℕ) → i < length l → On s 0 (take i l) i t → On s 0 (take (i + 1) l) (i + 1) (set t i (get_or l i 0))
-on_next {s} {t} {i} l h o = on_as (sym (ap (λ (n : ℕ). take n l) (add-one i) ∙ take-suc l i 0 h)) (on_more o (record { ends = refl; holds = refl }))
-
-pub on_start : {s : List ℕ} (l : List ℕ) → On s 0 (take 0 l) 0 s
-on_start l = record { ends = refl; holds = refl }
+-- a list in the place of the first numbers
+pub copied : (t l l' : List ℕ) (m : ℕ) → l' ≡ take m l → m ≤ length l → m ≤ length t → l' ++ drop m t ≡ sets t 0 (take m l)
+copied t l l' m e h g = let n = length-take-le m l h in ap (λ (l : List ℕ). l ++ drop m t) e ∙ sym (sets-eq (take m l) t 0 (omega arith) ∙ ap (λ (n : ℕ). take m l ++ drop n t) (zero (length (take m l)) n))
+  where
+    zero : (k : ℕ) → k ≡ m → 0 + k ≡ m
+    zero k q = omega arith
 
 -- ---- the head, then what follows it
 
@@ -292,25 +292,22 @@ record ReadAs {A : Type 0} (fl : A → List ℕ) (ws : List Word) (n : ℕ) (t :
   is : u ≡ ok thing (drop x ws)
   on : On t n (fl thing) m t'
 
-read_as : {A : Type 0} {fl : A → List ℕ} {ws : List Word} {n : ℕ} {t t' : List ℕ} {u : Res A} {x m : ℕ} → Agrees fl ws n t u (At x m) t' → ReadAs fl ws n t u x m t'
+read_as : {A : Type 0} {fl : A → List ℕ} {ws : List Word} {n : ℕ} {t t' : List ℕ} {u : Res A} {x m : ℕ} → Agrees fl ws n t u (Ok (x, m)) t' → ReadAs fl ws n t u x m t'
 read_as (read {e = e} on) = record { thing = e; is = refl; on = on }
 
-bad_as : {A : Type 0} {fl : A → List ℕ} {ws : List Word} {n : ℕ} {t t' : List ℕ} {u : Res A} {i : ℕ} → Agrees fl ws n t u (Bad i) t' → u ≡ bad (drop i ws)
+bad_as : {A : Type 0} {fl : A → List ℕ} {ws : List Word} {n : ℕ} {t t' : List ℕ} {u : Res A} {e : Misfit} → Agrees fl ws n t u (Err e) t' → u ≡ bad (drop e.at ws)
 bad_as faulty = refl
 
-module _ {text w t t₁ : List ℕ} {ws : List Word} {o : Out} (H : WordsHeld text w ws) (M : Marked text [] w ws) (few : count w ≤ 8192) (long : length t ≡ 24576) (hd : IsHead w 0 0 t o t₁) where
-  fuel : 8 * count w + 0 < 16 * length ws + 16 + 8 * 0
-  fuel = let m = H.many in omega arith
+fuel : {text w : List ℕ} {ws : List Word} → WordsHeld text w ws → 8 * count w + 0 < 16 * length ws + 16 + 8 * 0
+fuel H = let m = H.many in omega arith
 
-  answer : Agrees flat_head ws 0 t (head_p (16 * length ws + 16) ws) o t₁
-  answer = hd.agrees M (16 * length ws + 16) fuel
-
-  module _ {x m : ℕ} (q : o ≡ At x m) where
+module _ {text w t t₁ : List ℕ} {ws : List Word} (H : WordsHeld text w ws) (M : Marked text [] w ws) (few : count w ≤ 8192) (long : length t ≡ 24576) where
+  module _ {x m : ℕ} (hd : IsHead w 0 0 t (Ok (x, m)) t₁) where
     head : ReadAs flat_head ws 0 t (head_p (16 * length ws + 16) ws) x m t₁
-    head = read_as (agrees_as q answer)
+    head = read_as (hd.agrees M (16 * length ws + 16) (fuel H))
 
     fits : m ≤ 24576
-    fits = let v = moved_at_law q hd.moved in omega arith
+    fits = let v = hd.moved.to in omega arith
 
     pub head_taped : Taped t₁ m
     head_taped = record { few = fits; long = on_length head.on ∙ long }
@@ -327,60 +324,59 @@ module _ {text w t t₁ : List ℕ} {ws : List Word} {o : Out} (H : WordsHeld te
       pub judged_tree : Judged t (parse ws) r t'
       unfolding parse
       judged_tree = subst (λ (u : Res Actor). Judged t (whole (length ws) u) r t') goes
-          (E.judged (marked_of R H) (16 * length ws + 16) (let e = same_count R in let f = fuel in omega arith) head.thing memories head.on)
+          (E.judged (marked_of R H) (16 * length ws + 16) (let e = same_count R in let f = fuel H in omega arith) head.thing memories head.on)
 
-  pub judged_head : {i : ℕ} (t' : List ℕ) → o ≡ Bad i → Judged t (parse ws) (Bad i) t'
+  pub judged_head : {e : Misfit} (t' : List ℕ) → IsHead w 0 0 t (Err e) t₁ → Judged t (parse ws) (Err e) t'
   unfolding parse bind
-  judged_head {i} t' q = judged_bad (subst (λ (u : Res Actor). Agrees flat_actor ws 0 t u (Bad i) t') stops faulty) (let v = moved_bad q hd.moved in let m = H.many in omega arith)
+  judged_head {e} t' hd = judged_bad (subst (λ (u : Res Actor). Agrees flat_actor ws 0 t u (Err e) t') stops faulty) (let v = hd.moved.to in let m = H.many in omega arith)
     where
-      stops : bad (drop i ws) ≡ actor_p (16 * length ws + 16) ws
-      stops = sym (ap (λ (u : Res Head). bind u (λ h k. groups_p (16 * length ws + 16) h k)) (bad_as (agrees_as q answer))) ∙ actor_parts (16 * length ws + 16) ws
+      stops : bad (drop e.at ws) ≡ actor_p (16 * length ws + 16) ws
+      stops = sym (ap (λ (u : Res Head). bind u (λ h k. groups_p (16 * length ws + 16) h k)) (bad_as (hd.agrees M (16 * length ws + 16) (fuel H)))) ∙ actor_parts (16 * length ws + 16) ws
 
 pub moved_same : {len len' at n : ℕ} {o : Out} → len' ≡ len → Moved len' at n o → Moved len at n o
 moved_same {at = at} {n = n} {o = o} e v = subst (λ (len : ℕ). Moved len at n o) e v
 
 -- the groups after a head that is on the tape
 module _ {text : List ℕ} {ms : List (List ℕ)} {w : List ℕ} {ws : List Word} (M : Marked text ms w ws) (f at : ℕ) (h : Head) (e : spelled_of (memory_names h.memories) ≡ ms) where
-  pub ending_at : {s t t' : List ℕ} {n x m : ℕ} {o c : Out} → On s 0 (flat_head h) n t → c ≡ At x m → Closes w 39 o c → Agrees (flats flat_group) ws n t (constraint_p ms f (drop at ws)) o t'
-      → Agrees flat_actor ws 0 s (groups_p f h (drop at ws)) (At x m) t'
-  unfolding groups_p flat_actor flat_head
-  ending_at {s} {t' = t'} {x = x} {m = m} on q z a =
-      subst (λ (ms : List (List ℕ)). Agrees flat_actor ws 0 s (until (constraint_p ms f (drop at ws)) "}" (λ gs t j. ok (actor_of h gs) j)) (At x m) t') (sym e)
-      (until_at M s_unbrace _ _ q z a (λ gs p on₁. read (on_more on on₁)))
-
-  pub ending_bad : {s t t' : List ℕ} {n i : ℕ} {o c : Out} → c ≡ Bad i → Closes w 39 o c → Agrees (flats flat_group) ws n t (constraint_p ms f (drop at ws)) o t'
-      → Agrees flat_actor ws 0 s (groups_p f h (drop at ws)) (Bad i) t'
+  -- what is read of the groups and the brace, by what an answer is to be
+  ending_as : {s t' : List ℕ} {r : Out} → Agrees flat_actor ws 0 s (until (constraint_p ms f (drop at ws)) "}" (λ gs t j. ok (actor_of h gs) j)) r t' → Agrees flat_actor ws 0 s (groups_p f h (drop at ws)) r t'
   unfolding groups_p
-  ending_bad {s} {t' = t'} {i = i} q z a =
-      subst (λ (ms : List (List ℕ)). Agrees flat_actor ws 0 s (until (constraint_p ms f (drop at ws)) "}" (λ gs t j. ok (actor_of h gs) j)) (Bad i) t') (sym e)
-      (until_bad M s_unbrace _ _ q z a)
+  ending_as {s} {t'} {r} a = subst (λ (ms : List (List ℕ)). Agrees flat_actor ws 0 s (until (constraint_p ms f (drop at ws)) "}" (λ gs t j. ok (actor_of h gs) j)) r t') (sym e) a
+
+  module _ {s t t₁ : List ℕ} {n : ℕ} where
+    pub ending_at : {x y m : ℕ} → On s 0 (flat_head h) n t → Finds w x 39 y → Agrees (flats flat_group) ws n t (constraint_p ms f (drop at ws)) (Ok (x, m)) t₁ → Agrees flat_actor ws 0 s (groups_p f h (drop at ws)) (Ok (y, m)) t₁
+    unfolding flat_actor flat_head
+    ending_at on z a = ending_as (until_ok M s_unbrace _ _ a z (λ gs p on₁. read (on_more on on₁)))
+
+    pub ending_missed : {x m : ℕ} {i : Misfit} → Lacks w x 39 i.at → Agrees (flats flat_group) ws n t (constraint_p ms f (drop at ws)) (Ok (x, m)) t₁ → Agrees flat_actor ws 0 s (groups_p f h (drop at ws)) (Err i) t₁
+    ending_missed z a = ending_as (until_missed M s_unbrace _ _ a z)
+
+    pub ending_bad : {i : Misfit} → Agrees (flats flat_group) ws n t (constraint_p ms f (drop at ws)) (Err i) t₁ → Agrees flat_actor ws 0 s (groups_p f h (drop at ws)) (Err i) t₁
+    ending_bad a = ending_as (until_err M s_unbrace _ _ a)
 
 -- ---- row 5
 
 module _ {s : List ℕ} where
-  pub tree_said_law : (end : ℕ) (ws : List Word) {s' : List ℕ} {v : Verdict Actor} {x m : ℕ} → Judged s v (At x m) s' → Tape m ≡ tree_said end ws v
+  pub tree_said_law : (end : ℕ) (ws : List Word) {s' : List ℕ} {v : Verdict Actor} {x m : ℕ} → Judged s v (Ok (x, m)) s' → ◌≡◌ {A = Said} (Ok m) (tree_said end ws v)
   unfolding tree_said
-  tree_said_law end ws (accepted on) = ap Tape (let e = on.ends in omega arith)
+  tree_said_law end ws (accepted on) = ap (λ (m : ℕ). Ok m) (let e = on.ends in omega arith)
 
-  pub tree_after_law : {s' : List ℕ} {v : Verdict Actor} {x m : ℕ} (t : List ℕ) → Judged s v (At x m) s' → m ≤ length s → sets t 0 (take m s') ≡ tree_after v t
+  pub tree_after_law : {s' : List ℕ} {v : Verdict Actor} {x m : ℕ} (t : List ℕ) → Judged s v (Ok (x, m)) s' → m ≤ length s → sets t 0 (take m s') ≡ tree_after v t
   unfolding tree_after
   tree_after_law t (accepted on) h = ap (sets t 0) (on_taken on h)
 
-  pub fault_said : (end : ℕ) (ws : List Word) {s' : List ℕ} {v : Verdict Actor} {i p : ℕ} → Judged s v (Bad i) s' → p ≡ word_place end ws i → Refused 5 p ≡ tree_said end ws v
+  pub fault_said : (end : ℕ) (ws : List Word) {s' : List ℕ} {v : Verdict Actor} {e : Misfit} {p : ℕ} → Judged s v (Err e) s' → p ≡ word_place end ws e.at → refusal 5 p ≡ tree_said end ws v
   unfolding tree_said
-  fault_said end ws refused e = ap (Refused 5) e
+  fault_said end ws refused e = ap (refusal 5) e
 
-  pub fault_after : {s' : List ℕ} {v : Verdict Actor} {i : ℕ} (t : List ℕ) → Judged s v (Bad i) s' → t ≡ tree_after v t
+  pub fault_after : {s' : List ℕ} {v : Verdict Actor} {e : Misfit} (t : List ℕ) → Judged s v (Err e) s' → t ≡ tree_after v t
   unfolding tree_after
   fault_after t refused = refl
 
-  pub judged_length : {s' : List ℕ} {v : Verdict Actor} {x m : ℕ} → Judged s v (At x m) s' → length s' ≡ length s
+  pub judged_length : {s' : List ℕ} {v : Verdict Actor} {x m : ℕ} → Judged s v (Ok (x, m)) s' → length s' ≡ length s
   judged_length (accepted on) = on_length on
 
 -- ---- the words of a table, marked and read on a tape of one's own
-
-pub judged_as_law : {s t' : List ℕ} {v : Verdict Actor} {o o' : Out} → o ≡ o' → Judged s v o t' → Judged s v o' t'
-judged_as_law {s} {t'} {v} e j = subst (λ (o : Out). Judged s v o t') e j
 
 module _ {text w w₁ : List ℕ} (F : Filed text w) (R : Remarked text [] (count w) w w₁) where
   filed_marked : {ws : List Word} → WordsHeld text w ws → Marked text [] w₁ ws
@@ -392,30 +388,31 @@ module _ {text w w₁ : List ℕ} (F : Filed text w) (R : Remarked text [] (coun
   pub filed_ready : Ready text w₁
   filed_ready = record { ws = F.ws; held = held_again R F.held; table = record { few = few_marked; long = R.size ∙ F.table.long }; marked = filed_marked F.held }
 
-  module _ {s w₂ s' : List ℕ} {r : Out} (long : length s ≡ 24576) (T : IsTree text w₁ s r w₂ s') where
-    pub few_read : count w₂ ≤ 8192
-    few_read = let e = T.counted in let f = few_marked in omega arith
+  module _ {s w₂ s' : List ℕ} (long : length s ≡ 24576) where
+    module _ {r : Out} (T : IsTree text w₁ s r w₂ s') where
+      pub few_read : count w₂ ≤ 8192
+      few_read = let e = T.counted in let f = few_marked in omega arith
 
-    verdict : {ws : List Word} → WordsHeld text w ws → Judged s (parse ws) r s'
-    verdict H = T.judged (held_again R H) (filed_marked H)
+      verdict : {ws : List Word} → WordsHeld text w ws → Judged s (parse ws) r s'
+      verdict H = T.judged (held_again R H) (filed_marked H)
 
-    module _ {x m : ℕ} (q : r ≡ At x m) where
+    module _ {x m : ℕ} (T : IsTree text w₁ s (Ok (x, m)) w₂ s') where
       fits_tape : m ≤ 24576
-      fits_tape = let v = moved_at_law q T.moved in let f = few_marked in omega arith
+      fits_tape = let v = T.moved.to in let f = few_marked in omega arith
 
       pub tree_taped : Taped s' m
-      tree_taped = record { few = fits_tape; long = judged_length (judged_as_law q (verdict F.held)) ∙ long }
+      tree_taped = record { few = fits_tape; long = judged_length (verdict T F.held) ∙ long }
 
-      pub parsed_tree : {t t' : List ℕ} → t' ≡ sets t 0 (take m s') → IsParsed text w t (Tape m) t'
+      pub parsed_tree : {t t' : List ℕ} → t' ≡ sets t 0 (take m s') → IsParsed text w t (Ok m) t'
       parsed_tree {t} e = record {
-        answer = λ {ws} H. tree_said_law (length text) ws (judged_as_law q (verdict H));
-        tape = λ H. e ∙ tree_after_law t (judged_as_law q (verdict H)) (let f = fits_tape in omega arith);
+        answer = λ {ws} H. tree_said_law (length text) ws (verdict T H);
+        tape = λ H. e ∙ tree_after_law t (verdict T H) (let f = fits_tape in omega arith);
         room = fits_tape;
       }
 
-    pub parsed_fault : {i p : ℕ} {t : List ℕ} → r ≡ Bad i → p ≡ place_or (length text) w₂ i → IsParsed text w t (Refused 5 p) t
-    parsed_fault {i} {t = t} q e = record {
-      answer = λ {ws} H. fault_said (length text) ws (judged_as_law q (verdict H)) (e ∙ word_place_law (T.held (held_again R H)) (length text) i);
-      tape = λ H. fault_after t (judged_as_law q (verdict H));
+    pub parsed_fault : {e : Misfit} {p : ℕ} {t : List ℕ} → IsTree text w₁ s (Err e) w₂ s' → p ≡ place_or (length text) w₂ e.at → IsParsed text w t (refusal 5 p) t
+    parsed_fault {e} {t = t} T q = record {
+      answer = λ {ws} H. fault_said (length text) ws (verdict T H) (q ∙ word_place_law (T.held (held_again R H)) (length text) e.at);
+      tape = λ H. fault_after t (verdict T H);
       room = tt;
     }

@@ -1,5 +1,5 @@
 -- What reading an actor's text comes to: rows 1, 3, 4 and 5 of the actor's text, in this order, or the tape. Assumes nothing: these are definitions.
-use Rattle.std.specs.Prelude.{◌≡◌, true, false, List, [], ℕ, ◌+◌, ◌*◌, ◌≤◌, ◌<◌, leb, ltb, length, drop}
+use Rattle.std.specs.Prelude.{◌≡◌, Result, Ok, Err, true, false, List, [], ℕ, ◌+◌, ◌*◌, ◌≤◌, ◌<◌, leb, ltb, length, drop}
 use Rattle.std.proofs.Math.Option.{none, some}
 use Rattle.std.proofs.lemmas.List.Edits.{sets}
 use Rattle.language.specs.Text.{earliest}
@@ -12,28 +12,34 @@ use Rattle.language.specs.Reading.{word_place}
 use Rattle.words.specs.Table.{table_of}
 use Rattle.tape.specs.Tape.{longest, most_items, flat_actor}
 use Rattle.readers.specs.Marks.{count_at, count, place_at, Marked}
-use Rattle.readers.specs.Meets.{On, Moved}
+use Rattle.readers.specs.Meets.{Out, On, Moved}
 use Rattle.head_reader.specs.Heads.{Head, flat_head, actor_of}
 use Rattle.name_marks.specs.Marking.{WordsHeld, Tabled}
-use Rattle.readers.specs.declared.Out.{Out}
-use Rattle.readers.specs.declared.Out.TheVariants.{At, Bad}
-use Rattle.syntax.specs.declared.Said.{Said}
-use Rattle.syntax.specs.declared.Said.TheVariants.{Tape, Refused}
+use Rattle.readers.specs.declared.Misfit.{Misfit}
+use Rattle.language.specs.declared.Refusal.{Refusal}
+use Rattle.language.specs.declared.Text.TheVariants.{Actor as InActor}
+
+-- what reading a text comes to: the tape holds the actor in so many numbers, or a row refuses it at a place
+abbrev pub Said : Type 0
+Said = Result ℕ Refusal
+
+abbrev pub refusal : ℕ → ℕ → Said
+refusal n p = Err (record { row = n; text = InActor; place = p })
 
 -- row 5. The reader is never `tired` (`Statement`, `answers`)
 unfoldable pub tree_said : ℕ → List Word → Verdict Actor → Said
-tree_said end ws (tree a) = Tape (length (flat_actor a))
-tree_said end ws (fault i) = Refused 5 (word_place end ws i)
-tree_said end ws tired = Refused 5 0
+tree_said end ws (tree a) = Ok (length (flat_actor a))
+tree_said end ws (fault i) = refusal 5 (word_place end ws i)
+tree_said end ws tired = refusal 5 0
 
 -- rows 3 and 4
 unfoldable pub words_said : List ℕ → Said
 words_said text =
-    elim (words_of text) [ bad_at p ↦ Refused 3 p | words ws ↦ elim (earliest (left_out ws)) [ some p ↦ Refused 4 p | none ↦ tree_said (length text) ws (parse ws) ] ]
+    elim (words_of text) [ bad_at p ↦ refusal 3 p | words ws ↦ elim (earliest (left_out ws)) [ some p ↦ refusal 4 p | none ↦ tree_said (length text) ws (parse ws) ] ]
 
 -- row 1
 unfoldable pub said_of : List ℕ → Said
-said_of text = elim (leb (length text) limits.actor) [ false ↦ Refused 1 limits.actor | true ↦ words_said text ]
+said_of text = elim (leb (length text) limits.actor) [ false ↦ refusal 1 limits.actor | true ↦ words_said text ]
 
 -- the tape t after it: it holds the actor where the text is accepted, and is as it stood where not
 unfoldable pub tree_after : Verdict Actor → List ℕ → List ℕ
@@ -49,8 +55,8 @@ tape_after text t = elim (leb (length text) limits.actor) [ false ↦ t | true �
 
 -- what is answered has room on the tape
 abbrev pub Roomy : Said → Type 0
-Roomy (Tape n) = n ≤ longest
-Roomy (Refused n p) = Unit {0}
+Roomy (Ok n) = n ≤ longest
+Roomy (Err e) = Unit {0}
 
 -- ---- the contracts of the parts
 
@@ -83,8 +89,8 @@ groups_p f h ws = until (constraint_p (spelled_of (memory_names h.memories)) f w
 
 -- a reader's answer and its tape are the verdict on the whole text
 pub data Judged (t : List ℕ) : Verdict Actor → Out → List ℕ → Type 0 where
-  accepted : {a : Actor} {x m : ℕ} {t' : List ℕ} → On t 0 (flat_actor a) m t' → Judged t (tree a) (At x m) t'
-  refused : {i : ℕ} {t' : List ℕ} → Judged t (fault i) (Bad i) t'
+  accepted : {a : Actor} {x m : ℕ} {t' : List ℕ} → On t 0 (flat_actor a) m t' → Judged t (tree a) (Ok (x, m)) t'
+  refused : {e : Misfit} {t' : List ℕ} → Judged t (fault e.at) (Err e) t'
 
 -- what follows a head that is on the tape, to the end of the words
 pub record IsEnding (w : List ℕ) (at n : ℕ) (t : List ℕ) (r : Out) (t' : List ℕ) : Type 0 where

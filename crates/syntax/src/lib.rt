@@ -7,12 +7,3 @@ mod reading;
 
 pub use readers::Tape;
 pub use reading::read;
-
-// What reading a text comes to.
-#[derive(Clone, Copy)]
-pub enum Said {
-    // The tape holds the actor, in so many numbers.
-    Tape(u32),
-    // The number of the row that refuses, and the place.
-    Refused(u32, u32),
-}

@@ -1,16 +1,15 @@
 // From the text to the tape: its words, their marks, the head, and what follows it.
-ghost use Rattle.std.specs.Prelude.{◌≡◌, ◌≤◌, take};
-ghost use Rattle.std.proofs.lemmas.List.Edits.{sets};
+ghost use Rattle.std.specs.Prelude.{◌≡◌, ◌≤◌};
 ghost use Rattle.tape.specs.Tape.{most_items};
 ghost use Rattle.readers.specs.Marks.{count};
 ghost use Rattle.readers.specs.Meets.{Room};
 ghost use Rattle.name_marks.specs.Marking.{Taped};
-ghost use Rattle.syntax.specs.Read.{Filed, IsEnding, IsParsed, IsTree, Listed, Ready, Roomy, place_or, said_of, tape_after, words_after, words_said};
+ghost use Rattle.syntax.specs.Read.{Filed, IsEnding, IsParsed, IsTree, Listed, Ready, Roomy, place_or, refusal, said_of, tape_after, words_after, words_said};
 
-use crate::Said;
 use head_reader::head;
+use language::{Refusal, Text};
 use name_marks::mark;
-use readers::{COUNT, Out, Table, Tape, closed, place, wide};
+use readers::{COUNT, Misfit, Out, Table, Tape, expect, place};
 use rule_reader::constraint;
 use signs::kinds;
 use tape::LENGTH;
@@ -22,17 +21,12 @@ fn ending(words: &Table, tape: &mut Tape, at: usize, n: usize) -> Out
     requires { Room words.now at n }
     ensures { IsEnding words.now at n tape.old result tape.new }
 {
-    let o = constraint(words, tape, at, n);
-    match closed(words, o, kinds::UNBRACE) {
-        Out::At(x, m) => {
-            let many = wide(words[COUNT]);
-            if x == many {
-                return Out::At(x, m);
-            }
-            Out::Bad(x)
-        }
-        Out::Bad(i) => Out::Bad(i),
+    let (x, m) = constraint(words, tape, at, n)?;
+    let end = expect(words, x, kinds::UNBRACE)?;
+    if end != words[COUNT] as usize {
+        return Err(Misfit { at: end });
     }
+    Ok((end, m))
 }
 
 // The whole actor: which names are memories is known after its head.
@@ -41,13 +35,9 @@ fn tree(text: &[u8], words: &mut Table, tape: &mut Tape) -> Out
     requires taped { Taped tape.old 0 }
     ensures { IsTree text.now words.old tape.old result words.new tape.new }
 {
-    match head(words, tape, 0, 0) {
-        Out::At(x, m) => {
-            mark(text, words, tape, m);
-            ending(words, tape, x, m)
-        }
-        Out::Bad(i) => Out::Bad(i),
-    }
+    let (x, m) = head(words, tape, 0, 0)?;
+    mark(text, words, tape, m);
+    ending(words, tape, x, m)
 }
 
 // The place of a word, or the end of the text where there is none.
@@ -55,53 +45,52 @@ fn place_or(words: &Table, at: usize, end: u32) -> u32
     requires { count words.now ≤ most_items }
     ensures { result ≡ place_or end words.now at }
 {
-    let many = wide(words[COUNT]);
-    if at < many {
-        return place(words, at);
+    if at < words[COUNT] as usize {
+        place(words, at)
+    } else {
+        end
     }
-    end
 }
 
-fn copy(from: &Tape, n: usize, tape: &mut Tape)
-    requires { Taped from.now n }
-    ensures { tape.new ≡ sets tape.old 0 (take n from.now) }
+// The actor's text is refused.
+fn refused(row: u32, place: u32) -> Result<u32, Refusal>
+    ensures { result ≡ refusal row place }
 {
-    let mut i = 0;
-    while i < n {
-        tape[i] = from[i];
-        i += 1;
-    }
+    Err(Refusal {
+        row,
+        text: Text::Actor,
+        place,
+    })
 }
 
 // Row 5. The tape is lent to no reader, so that a refusal leaves it as it stood.
-fn parsed(text: &[u8], words: &mut Table, tape: &mut Tape) -> Said
+fn parsed(text: &[u8], words: &mut Table, tape: &mut Tape) -> Result<u32, Refusal>
     requires { Filed text.now words.old }
     ensures { IsParsed text.now words.old tape.old result tape.new }
 {
     let mut scratch = [0u32; LENGTH];
     mark(text, words, &scratch, 0);
     match tree(text, words, &mut scratch) {
-        Out::At(_, m) => {
-            copy(&scratch, m, tape);
-            Said::Tape(m as u32)
+        Ok((_, m)) => {
+            tape[..m].copy_from_slice(&scratch[..m]);
+            Ok(m as u32)
         }
-        Out::Bad(i) => {
-            let end = text.len() as u32;
-            let p = place_or(words, i, end);
-            Said::Refused(5, p)
+        Err(e) => {
+            let place = place_or(words, e.at, text.len() as u32);
+            refused(5, place)
         }
     }
 }
 
 // Row 4, where n words are in the table.
-fn listed(text: &[u8], words: &mut Table, n: u32, tape: &mut Tape) -> Said
+fn listed(text: &[u8], words: &mut Table, n: u32, tape: &mut Tape) -> Result<u32, Refusal>
     requires { Listed text.now words.old n }
     ensures answer { result ≡ words_said text.now }
     ensures tape { tape.new ≡ words_after text.now tape.old }
     ensures room { Roomy result }
 {
-    match words::left_out(words, wide(n)) {
-        Some(p) => Said::Refused(4, p),
+    match words::left_out(words, n as usize) {
+        Some(place) => refused(4, place),
         None => {
             words[COUNT] = n;
             parsed(text, words, tape)
@@ -110,19 +99,19 @@ fn listed(text: &[u8], words: &mut Table, n: u32, tape: &mut Tape) -> Said
 }
 
 // Rows 1, 3, 4 and 5 of an actor's text, in this order.
-pub fn read(text: &[u8], tape: &mut Tape) -> Said
+pub fn read(text: &[u8], tape: &mut Tape) -> Result<u32, Refusal>
     ensures answer { result ≡ said_of text.now }
     ensures tape { tape.new ≡ tape_after text.now tape.old }
     ensures room { Roomy result }
 {
-    if BYTES < text.len() {
-        return Said::Refused(1, language::Actor::BYTES);
+    if text.len() > BYTES {
+        return refused(1, language::Actor::BYTES);
     }
     let mut table = [0u32; COUNT + 1];
     match words::words(text, &mut table) {
         Ok(n) => listed(text, &mut table, n, tape),
-        Err(words::Fault::Bad(p)) => Said::Refused(3, p),
+        Err(words::Fault::Bad(place)) => refused(3, place),
         // a text within its limit has room
-        Err(words::Fault::NoRoom) => Said::Refused(3, 0),
+        Err(words::Fault::NoRoom) => refused(3, 0),
     }
 }

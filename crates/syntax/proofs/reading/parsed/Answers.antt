@@ -1,7 +1,7 @@
 -- `syntax::reading::parsed` meets its contract. Assumes nothing.
 use native.Mathlib.Omega.{arith}
 use Rattle.name_marks.specs.Marking.{runs_at, places_on}
-use Rattle.syntax.proofs.Whole.{filed_ready, few_read, tree_taped, parsed_tree, parsed_fault}
+use Rattle.syntax.proofs.Whole.{filed_ready, few_read, tree_taped, parsed_tree, parsed_fault, copied}
 use borrow.Author.Rules.{rules}
 use Rattle.syntax.proofs.reading.parsed.Goals as goal
 
@@ -9,22 +9,18 @@ pub tree-requires : goal.tree-requires
 unfolding runs_at places_on
 tree-requires c = record { ready = filed_ready c.requires c.mark.ensures; taped = search rules }
 
-pub copy-requires : goal.copy-requires
+pub returns-in-Ok : goal.returns-in-Ok
 unfolding runs_at places_on
-copy-requires c = tree_taped c.requires c.mark.ensures (search rules) c.tree.ensures c.in-At.is
+returns-in-Ok c = parsed_tree c.requires c.mark.ensures (search rules) c.in-Ok.ensures (copied _ _ _ _ c.copy_from_slice.ensures.after (let h = tree_taped c.requires c.mark.ensures (search rules) c.in-Ok.ensures in omega arith) (let h = tree_taped c.requires c.mark.ensures (search rules) c.in-Ok.ensures in omega arith))
 
-pub overflow_cast-result : goal.overflow_cast-result
+pub returns-in-Err : goal.returns-in-Err
 unfolding runs_at places_on
-overflow_cast-result c = omega (arith, tree_taped c.requires c.mark.ensures (search rules) c.tree.ensures c.in-At.is)
+returns-in-Err c = parsed_fault c.requires c.mark.ensures (search rules) c.in-Err.ensures c.place_or-place.ensures
 
-pub place_or-p-requires : goal.place_or-p-requires
+pub slice_bounds-copy_from_slice-end : goal.slice_bounds-copy_from_slice-end
 unfolding runs_at places_on
-place_or-p-requires c = few_read c.requires c.mark.ensures (search rules) c.tree.ensures
+slice_bounds-copy_from_slice-end c = let h = tree_taped c.requires c.mark.ensures (search rules) c.in-Ok.ensures in omega arith
 
-pub returns-in-At : goal.returns-in-At
+pub place_or-place-requires : goal.place_or-place-requires
 unfolding runs_at places_on
-returns-in-At c = parsed_tree c.requires c.mark.ensures (search rules) c.tree.ensures c.in-At.is c.copy.ensures
-
-pub returns-in-Bad : goal.returns-in-Bad
-unfolding runs_at places_on
-returns-in-Bad c = parsed_fault c.requires c.mark.ensures (search rules) c.tree.ensures c.in-Bad.is c.place_or-p.ensures
+place_or-place-requires c = few_read c.requires c.mark.ensures (search rules) c.in-Err.ensures

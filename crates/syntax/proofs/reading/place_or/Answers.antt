@@ -7,12 +7,12 @@ use Rattle.syntax.proofs.reading.place_or.Goals as goal
 
 pub place-requires : goal.place-requires
 unfolding count
-place-requires c = omega (arith, c.requires, c.wide-many.ensures)
+place-requires c = omega (arith, c.requires)
 
-pub returns-then-at-many : goal.returns-then-at-many
+pub returns-then-at-words : goal.returns-then-at-words
 unfolding count
-returns-then-at-many c = c.place.ensures ∙ place_here c.args.end c.args.words.now c.args.at (omega (arith, c.wide-many.ensures))
+returns-then-at-words c = c.place.ensures ∙ place_here c.args.end c.args.words.now c.args.at (omega arith)
 
-pub returns : goal.returns
+pub returns-else-at-words : goal.returns-else-at-words
 unfolding count
-returns c = place_end c.args.end c.args.words.now c.args.at (omega (arith, c.wide-many.ensures))
+returns-else-at-words c = place_end c.args.end c.args.words.now c.args.at (omega arith)
