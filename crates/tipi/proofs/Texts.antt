@@ -22,8 +22,9 @@ use Rattle.language.specs.declared.Text.{Text}
 use Rattle.language.specs.declared.Text.TheVariants.{Actor as InActor, Bindings as InBindings}
 use Rattle.tape.specs.Tape.{flat_actor}
 use Rattle.syntax.specs.Read.{tree_said, words_said, said_of, tree_after, words_after, tape_after, Roomy}
-use Rattle.syntax.specs.declared.Said.{Said}
-use Rattle.syntax.specs.declared.Said.TheVariants.{Tape as IsTape, Refused as IsRefused}
+use Rattle.language.specs.declared.Refusal.{Refusal}
+use Rattle.syntax.specs.Read.{Said}
+use Rattle.syntax.specs.Read.{refusal as said_refused}
 use Rattle.bindings.specs.Table as Table
 use Rattle.bindings.specs.declared.Fault.TheVariants.{Wrong, NoRoom}
 use Rattle.std.specs.Prelude.{Ok, Err}
@@ -55,8 +56,8 @@ pub record Taped (text t t' : List ℕ) (b : Bindings) (n : ℕ) (e : Early) : T
 
 -- what is said of a text, as rows 3 to 9
 abbrev SaidAs : (text t t' : List ℕ) → Bindings → Said → Early → Type 0
-SaidAs text t t' b (IsRefused n p) e = e ≡ stopped n InActor p
-SaidAs text t t' b (IsTape n) e = Taped text t t' b n e
+SaidAs text t t' b (Err why) e = e ≡ stopped why.row why.text why.place
+SaidAs text t t' b (Ok n) e = Taped text t t' b n e
 
 module _ (text t : List ℕ) (b : Bindings) where
   tree_case : (ws : List Word) (v : Verdict Actor) → words_of text ≡ words ws → parse ws ≡ v
@@ -67,14 +68,14 @@ module _ (text t : List ℕ) (b : Bindings) where
   tree_case ws tired l q = refl
 
   left_case : (ws : List Word) (o : Option ℕ) → words_of text ≡ words ws
-      → SaidAs text t (elim o [ some p ↦ t | none ↦ tree_after (parse ws) t ]) b (elim o [ some p ↦ IsRefused 4 p | none ↦ tree_said (length text) ws (parse ws) ]) (elim o [ some p ↦ stopped 4 InActor p | none ↦ parsed (length text) ws b ])
+      → SaidAs text t (elim o [ some p ↦ t | none ↦ tree_after (parse ws) t ]) b (elim o [ some p ↦ said_refused 4 p | none ↦ tree_said (length text) ws (parse ws) ]) (elim o [ some p ↦ stopped 4 InActor p | none ↦ parsed (length text) ws b ])
   unfolding parsed
   left_case ws (some p) l = refl
   left_case ws none l = tree_case ws (parse ws) l refl
 
   words_case : (x : Lexed) → words_of text ≡ x
       → SaidAs text t (elim x [ bad_at p ↦ t | words ws ↦ elim (earliest (left_out ws)) [ some p ↦ t | none ↦ tree_after (parse ws) t ] ]) b
-      (elim x [ bad_at p ↦ IsRefused 3 p | words ws ↦ elim (earliest (left_out ws)) [ some p ↦ IsRefused 4 p | none ↦ tree_said (length text) ws (parse ws) ] ])
+      (elim x [ bad_at p ↦ said_refused 3 p | words ws ↦ elim (earliest (left_out ws)) [ some p ↦ said_refused 4 p | none ↦ tree_said (length text) ws (parse ws) ] ])
       (elim x [ bad_at p ↦ stopped 3 InActor p | words ws ↦ row 4 InActor (left_out ws) (parsed (length text) ws b) ])
   unfolding row
   words_case (bad_at p) l = refl
@@ -83,13 +84,13 @@ module _ (text t : List ℕ) (b : Bindings) where
   worded_said : length text ≤ limits.actor → SaidAs text t (tape_after text t) b (said_of text) (worded text b)
   unfolding said_of tape_after words_said words_after worded
   worded_said h =
-      subst (λ (x : Bool). SaidAs text t (elim x [ false ↦ t | true ↦ words_after text t ]) b (elim x [ false ↦ IsRefused 1 limits.actor | true ↦ words_said text ]) (worded text b))
+      subst (λ (x : Bool). SaidAs text t (elim x [ false ↦ t | true ↦ words_after text t ]) b (elim x [ false ↦ said_refused 1 limits.actor | true ↦ words_said text ]) (worded text b))
       (sym (le-leb (length text) limits.actor h)) (words_case (words_of text) refl)
 
-  pub worded_refused : {n p : ℕ} {r : Said} (before : List ℕ) → length text ≤ limits.actor → r ≡ said_of text → r ≡ IsRefused n p → After (worded text b) (Refused n InActor p) before before
-  worded_refused {n} {p} before h e f = refusal n InActor p before (subst (λ (x : Said). SaidAs text t (tape_after text t) b x (worded text b)) (sym e ∙ f) (worded_said h))
+  pub worded_refused : (why : Refusal) {r : Said} (before : List ℕ) → length text ≤ limits.actor → r ≡ said_of text → r ≡ Err why → After (worded text b) (Err why) before before
+  worded_refused why before h e f = refusal why.row why.text why.place before (subst (λ (x : Said). SaidAs text t (tape_after text t) b x (worded text b)) (sym e ∙ f) (worded_said h))
 
-  pub worded_taped : {n : ℕ} {r : Said} → length text ≤ limits.actor → r ≡ said_of text → r ≡ IsTape n → Taped text t (tape_after text t) b n (worded text b)
+  pub worded_taped : {n : ℕ} {r : Said} → length text ≤ limits.actor → r ≡ said_of text → r ≡ Ok n → Taped text t (tape_after text t) b n (worded text b)
   worded_taped h e f = subst (λ (x : Said). SaidAs text t (tape_after text t) b x (worded text b)) (sym e ∙ f) (worded_said h)
 
 pub taped_tells : {text t t' : List ℕ} {b : Bindings} {n : ℕ} {e : Early} (p : Taped text t t' b n e) → n ≤ length t → Tells text t' n p.ws p.actor
@@ -133,10 +134,10 @@ pub record Met (text t btext table : List ℕ) (n : ℕ) (lines : Lines) (b : Bi
   pub held : TextsHeld text t n btext table lines ws actor b
   pub whole : worded text b ≡ judged ws actor b
 
-pub few_numbers : {r : Said} {n : ℕ} → Roomy r → r ≡ IsTape n → n ≤ 24576
+pub few_numbers : {r : Said} {n : ℕ} → Roomy r → r ≡ Ok n → n ≤ 24576
 few_numbers h e = subst Roomy e h
 
-pub met : (text t : List ℕ) {t' btext table : List ℕ} {n : ℕ} {lines : Lines} {b : Bindings} {r : Said} → length text ≤ limits.actor → length t ≡ 24576 → r ≡ said_of text → t' ≡ tape_after text t → Roomy r → r ≡ IsTape n → Binds btext table lines b → Met text t' btext table n lines b
+pub met : (text t : List ℕ) {t' btext table : List ℕ} {n : ℕ} {lines : Lines} {b : Bindings} {r : Said} → length text ≤ limits.actor → length t ≡ 24576 → r ≡ said_of text → t' ≡ tape_after text t → Roomy r → r ≡ Ok n → Binds btext table lines b → Met text t' btext table n lines b
 met text t {t'} {btext} {table} {n} {lines} {b} h long e f room g binds =
     let p = worded_taped text t b h e g in
     record {

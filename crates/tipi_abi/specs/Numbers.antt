@@ -1,20 +1,19 @@
 -- An answer of `tipi::read` as three numbers. Assumes nothing: these are definitions.
-use Rattle.std.specs.Prelude.{◌≡◌, List, ℕ, set}
+use Rattle.std.specs.Prelude.{◌≡◌, List, ℕ, set, Ok, Err}
 use Rattle.language.specs.declared.Text.{Text}
 use Rattle.language.specs.declared.Text.TheVariants.{Actor, Bindings}
 use Rattle.tipi.specs.Told.{Read}
 use Rattle.plan_answer.specs.Answered.{Answer}
-use Rattle.plan_answer.specs.Answered.{Plan, Refused}
 
 -- the number of a refusal, or 0 for a plan
 unfoldable pub row_of : Answer → ℕ
-row_of (Plan n) = 0
-row_of (Refused row which place) = row
+row_of (Ok n) = 0
+row_of (Err why) = why.row
 
 -- the place of a refusal, or the plan's length
 unfoldable pub place_of : Answer → ℕ
-place_of (Plan n) = n
-place_of (Refused row which place) = place
+place_of (Ok n) = n
+place_of (Err why) = why.place
 
 -- the text of a place: 0 the actor's, 1 the bindings'
 unfoldable pub number_of : Text → ℕ
@@ -23,8 +22,8 @@ number_of Bindings = 1
 
 -- the text of a refusal, or 0 for a plan
 unfoldable pub text_of : Answer → ℕ
-text_of (Plan n) = 0
-text_of (Refused row which place) = number_of which
+text_of (Ok n) = 0
+text_of (Err why) = number_of why.text
 
 -- the two numbers that are told beside the row
 abbrev pub told_of : Answer → List ℕ → List ℕ

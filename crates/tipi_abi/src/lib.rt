@@ -7,15 +7,12 @@ ghost use Rattle.std.specs.Prelude.{◌≡◌};
 ghost use Rattle.tipi_abi.specs.Numbers.{number_of, Numbered};
 
 use language::Text;
-use tipi::Answer;
 
+#[tactic(auto, unfolding(crate::specs::Numbers::number_of))]
 fn number_of(which: Text) -> u32
     ensures { result ≡ number_of which }
 {
-    match which {
-        Text::Actor => 0,
-        Text::Bindings => 1,
-    }
+    which as u32
 }
 
 #[unsafe(no_mangle)]
@@ -28,15 +25,15 @@ pub extern "C" fn tipi_read(
     ensures { Numbered text.now bindings.now result plan.old plan.new told.old told.new }
 {
     match tipi::read(text, bindings, plan) {
-        Answer::Plan(length) => {
+        Ok(length) => {
             told[0] = length;
             told[1] = 0;
             0
         }
-        Answer::Refused(row, which, place) => {
-            told[0] = place;
-            told[1] = number_of(which);
-            row
+        Err(why) => {
+            told[0] = why.place;
+            told[1] = number_of(why.text);
+            why.row
         }
     }
 }
