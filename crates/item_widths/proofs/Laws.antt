@@ -1,17 +1,13 @@
--- Widths stay small, and which slots may be kept. Assumes nothing.
-use Prim.Native.Nat.{ℕ, ◌*◌, ◌≤◌, ◌<◌}
+-- Which slots may be kept. Assumes nothing.
+use Prim.Native.Nat.{ℕ, ◌≤◌, ◌<◌}
 use mathlib.Core.Path.{◌≡◌, refl, ap}
 use mathlib.Core.List.{List}
 use mathlib.Core.Bool.{Bool, true, false}
 use native.Mathlib.Omega.{arith}
-use native.Mathlib.Nat.{mul-le-mul}
 use lib.Dec.{eqb, ltb}
 use borrow.Author.Tests.{ltb-true, le-ltb, lt-ltb}
 use Rattle.language.specs.Limits.{limits}
 use Rattle.plan.specs.Sound.{Rules, slot_width, keepable, slots, unset}
-
-pub product_small : (n w : ℕ) → n ≤ 64 → w ≤ 64 → n * w ≤ 4096
-product_small n w h l = mul-le-mul h l
 
 -- a slot that may be kept: of a `val`, of a `case`, and of either it is there
 module _ (t : Rules) (ls : List ℕ) (k : ℕ) where

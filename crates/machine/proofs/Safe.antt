@@ -19,8 +19,7 @@ use Rattle.plan.specs.Sound.{Check, check, broken, Rules, push, test, check1, en
 use Rattle.plan.specs.Sound.{rules_of}
 use Rattle.plan.specs.Items.{takes_of, acts_of}
 use Rattle.item_widths.specs.Widths.{width_if, width_of}
-use Rattle.item_widths.specs.declared.Width.{Width}
-use Rattle.item_widths.specs.declared.Width.TheVariants.{None, Of}
+use Rattle.std.specs.Prelude.{Option, Some, None}
 use Rattle.soundness.specs.Steps.{push_over}
 use Rattle.plan.proofs.Tests.{and_left, and_right}
 use Rattle.soundness.proofs.Laws.{pushes, output_facts}
@@ -53,11 +52,11 @@ module _ (t : Rules) (is : List Item) where
       go false e k = not_broken k
 
   -- the width that was pushed, and what the check says of it
-  over_good : (k : ℕ) (v : Width) (ws ls : List ℕ) (d : ℕ) → Good t is (push_over k v ws ls d)
-      → (w : ℕ) × (v ≡ Of w) × (k ≤ length ws) × (w ≤ 64) × (length (drop k ws) < 256) × Good t is (check (w ∷ drop k ws) ls d)
+  over_good : (k : ℕ) (v : Option ℕ) (ws ls : List ℕ) (d : ℕ) → Good t is (push_over k v ws ls d)
+      → (w : ℕ) × (v ≡ Some w) × (k ≤ length ws) × (w ≤ 64) × (length (drop k ws) < 256) × Good t is (check (w ∷ drop k ws) ls d)
   unfolding push_over
   over_good k None ws ls d g = not_broken g
-  over_good k (Of w) ws ls d g = let r = go (ltb (length ws) k) refl g in (w, refl, r.0, r.1, r.2, r.3)
+  over_good k (Some w) ws ls d g = let r = go (ltb (length ws) k) refl g in (w, refl, r.0, r.1, r.2, r.3)
     where
       go : (b : Bool) → ltb (length ws) k ≡ b → Good t is (elim b [ true ↦ broken | false ↦ push w (drop k ws) ls d ])
           → (k ≤ length ws) × (w ≤ 64) × (length (drop k ws) < 256) × Good t is (check (w ∷ drop k ws) ls d)
@@ -114,10 +113,10 @@ slots_start n = record { long = length-replicate n unset ∙ sym (length-replica
 
 -- ---- what a rule's code may count on
 
-no_width : {A : Type 0} (v : ℕ) → None ≡ Of v → A
+no_width : {A : Type 0} (v : ℕ) → None ≡ Some v → A
 no_width v h = let z : ◌≡◌ {A = ℕ} 0 1 = cc in absurd (omega arith)
 
-width_if_law : (b : Bool) (w v : ℕ) → width_if b w ≡ Of v → v ≤ 64 → (b ≡ true) × (w ≤ 64) × (v ≡ w)
+width_if_law : (b : Bool) (w v : ℕ) → width_if b w ≡ Some v → v ≤ 64 → (b ≡ true) × (w ≤ 64) × (v ≡ w)
 width_if_law true w v h l = let e : v ≡ w = cc in (refl, rw (← e) l, e)
 width_if_law false w v h l = no_width v h
 
@@ -142,7 +141,7 @@ module _ (p : List ℕ) (present : ℕ) (values memory lw lv os : List ℕ) (g :
   abbrev Fine : Item → ℕ → Type 0
   Fine i v = Asks values memory lv os x y i × (value_of values memory lv c x y i < 2 ^ v)
 
-  fine : (i : Item) (v : ℕ) → width_of t0 lw wx wy i ≡ Of v → v ≤ 64 → Fine i v
+  fine : (i : Item) (v : ℕ) → width_of t0 lw wx wy i ≡ Some v → v ≤ 64 → Fine i v
   unfolding slot_width
   fine (Const w lo hi) v h l =
       let r = width_if_law (leb w 64 && ltb (lo + hi * 2 ^ 32) (2 ^ w)) w v h l in

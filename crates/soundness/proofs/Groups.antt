@@ -5,8 +5,8 @@ use mathlib.Core.List.{List}
 use mathlib.Core.Bool.{Bool, true, false}
 use native.Mathlib.Omega.{arith}
 use Rattle.language.specs.Values.{or_of}
-use Rattle.plan.specs.Layout.{group_count, group_at, rules_before}
-use Rattle.plan.specs.Sound.{sections_ok, Ended, ended, unended, rule_check, joined, group_check, groups_check, sound_of}
+use Rattle.plan.specs.Layout.{group_at, rules_before}
+use Rattle.plan.specs.Sound.{Ended, ended, unended, rule_check, joined, group_check, groups_check}
 
 module _ (p : List ℕ) (taken mine r count i : ℕ) (l : i < count) where
   abbrev left_over : suc (count - (i + 1)) ≡ count - i
@@ -51,12 +51,3 @@ module _ (p : List ℕ) (taken g n : ℕ) (l : g < n) where
 pub groups_done : (p : List ℕ) (taken g n : ℕ) → n ≤ g → groups_check p taken g (n - g) ≡ true
 unfolding groups_check
 groups_done p taken g n h = let e : n - g ≡ 0 = omega arith in rw e
-
-module _ (p : List ℕ) {a : Bool} (e : a ≡ sections_ok p) where
-  pub sound_yes : {b : Bool} → a ≡ true → b ≡ groups_check p 0 0 (group_count p) → b ≡ sound_of p
-  unfolding sound_of
-  sound_yes h q = q ∙ sym (ap (λ (x : Bool). elim x [ true ↦ groups_check p 0 0 (group_count p) | false ↦ false ]) (sym e ∙ h))
-
-  pub sound_no : a ≡ false → false ≡ sound_of p
-  unfolding sound_of
-  sound_no h = sym (ap (λ (x : Bool). elim x [ true ↦ groups_check p 0 0 (group_count p) | false ↦ false ]) (sym e ∙ h))

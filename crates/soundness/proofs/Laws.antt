@@ -18,8 +18,7 @@ use Rattle.plan.specs.Sound.{Check, check, broken, Rules, push, test, check1, in
 use Rattle.plan.specs.Sound.{rules_of}
 use Rattle.item_widths.specs.Widths.{width_if, width_of}
 use Rattle.soundness.specs.Steps.{push_over}
-use Rattle.item_widths.specs.declared.Width.{Width}
-use Rattle.item_widths.specs.declared.Width.TheVariants.{None, Of}
+use Rattle.std.specs.Prelude.{Option, Some, None}
 use Rattle.plan.specs.Items.{takes_of, acts_of}
 use Rattle.plan.specs.Waits.{top}
 use Rattle.plan.proofs.Tests.{and_left, and_right}
@@ -35,7 +34,7 @@ test_yes : (c : Check) → test true c ≡ c
 unfolding test
 test_yes c = refl
 
-over_enough : (k w : ℕ) (ws ls : List ℕ) (d : ℕ) → k ≤ length ws → push_over k (Of w) ws ls d ≡ push w (drop k ws) ls d
+over_enough : (k w : ℕ) (ws ls : List ℕ) (d : ℕ) → k ≤ length ws → push_over k (Some w) ws ls d ≡ push w (drop k ws) ls d
 unfolding push_over
 over_enough k w ws ls d h = ap (λ (b : Bool). elim b [ true ↦ broken | false ↦ push w (drop k ws) ls d ]) (le-ltb (length ws) k h)
 
@@ -43,10 +42,10 @@ over_none : (k : ℕ) (ws ls : List ℕ) (d : ℕ) → push_over k None ws ls d 
 unfolding push_over
 over_none k ws ls d = refl
 
-over_few : (k : ℕ) (v : Width) (ws ls : List ℕ) (d : ℕ) → length ws < k → push_over k v ws ls d ≡ broken
+over_few : (k : ℕ) (v : Option ℕ) (ws ls : List ℕ) (d : ℕ) → length ws < k → push_over k v ws ls d ≡ broken
 unfolding push_over
 over_few k None ws ls d h = refl
-over_few k (Of w) ws ls d h = ap (λ (b : Bool). elim b [ true ↦ broken | false ↦ push w (drop k ws) ls d ]) (lt-ltb (length ws) k h)
+over_few k (Some w) ws ls d h = ap (λ (b : Bool). elim b [ true ↦ broken | false ↦ push w (drop k ws) ls d ]) (lt-ltb (length ws) k h)
 
 -- a width that is pushed where a test holds
 over_test : (k : ℕ) (b : Bool) (w : ℕ) (ws ls : List ℕ) (d : ℕ) → k ≤ length ws → test b (push w (drop k ws) ls d) ≡ push_over k (width_if b w) ws ls d
@@ -115,9 +114,9 @@ module _ (p : List ℕ) (present taken : ℕ) (ls : List ℕ) (d : ℕ) where
   pushes Bad ws h = sym (over_none 0 ws ls d)
 
   -- the same, of the width that the item leaves
-  pub left_width : (i : Item) (ws : List ℕ) → acts_of i ≡ false → (v : Width) → width_of (rules_of p present 0) ls (get_or ws 1 0) (get_or ws 0 0) i ≡ v
+  pub left_width : (i : Item) (ws : List ℕ) → acts_of i ≡ false → (v : Option ℕ) → width_of (rules_of p present 0) ls (get_or ws 1 0) (get_or ws 0 0) i ≡ v
       → push_over (takes_of i) v ws ls d ≡ check1 t i ws ls d
-  left_width i ws h v e = sym (pushes i ws h ∙ ap (λ (u : Width). push_over (takes_of i) u ws ls d) e)
+  left_width i ws h v e = sym (pushes i ws h ∙ ap (λ (u : Option ℕ). push_over (takes_of i) u ws ls d) e)
 
 -- ---- what `push_over` leaves
 
@@ -131,21 +130,21 @@ push_yes w ws ls d h l =
     ap (λ (b : Bool). elim b [ true ↦ check (w ∷ ws) ls d | false ↦ broken ]) (ap₂ (λ (x y : Bool). x && y) (le-leb w 64 h) (lt-ltb (length ws) 256 l))
 
 module _ (s : List ℕ) (n k w : ℕ) (ls : List ℕ) (d : ℕ) where
-  pub over_short : n < k → broken ≡ push_over k (Of w) (top s n) ls d
-  over_short h = sym (over_few k (Of w) (top s n) ls d (rw (length_top s n) h))
+  pub over_short : n < k → broken ≡ push_over k (Some w) (top s n) ls d
+  over_short h = sym (over_few k (Some w) (top s n) ls d (rw (length_top s n) h))
 
-  over_top : k ≤ n → push_over k (Of w) (top s n) ls d ≡ push w (top s (n - k)) ls d
+  over_top : k ≤ n → push_over k (Some w) (top s n) ls d ≡ push w (top s (n - k)) ls d
   over_top h = over_enough k w (top s n) ls d (rw (length_top s n) h) ∙ ap (λ (l : List ℕ). push w l ls d) (top_drop s n k h)
 
-  pub over_wide : k ≤ n → 64 < w → broken ≡ push_over k (Of w) (top s n) ls d
+  pub over_wide : k ≤ n → 64 < w → broken ≡ push_over k (Some w) (top s n) ls d
   over_wide h l = sym (over_top h ∙ push_not w (top s (n - k)) ls d (ap (λ (x : Bool). x && ltb (length (top s (n - k))) 256) (lt-leb w 64 l)))
 
-  pub over_full : k ≤ n → 256 ≤ n - k → broken ≡ push_over k (Of w) (top s n) ls d
+  pub over_full : k ≤ n → 256 ≤ n - k → broken ≡ push_over k (Some w) (top s n) ls d
   over_full h l =
       let full = le-ltb (length (top s (n - k))) 256 (rw (length_top s (n - k)) l) in
       sym (over_top h ∙ push_not w (top s (n - k)) ls d (ap (λ (x : Bool). leb w 64 && x) full ∙ and-false (leb w 64)))
 
-  pub over_pushed : k ≤ n → w ≤ 64 → n - k < 256 → n - k < length s → check (top (set s (n - k) w) (n - k + 1)) ls d ≡ push_over k (Of w) (top s n) ls d
+  pub over_pushed : k ≤ n → w ≤ 64 → n - k < 256 → n - k < length s → check (top (set s (n - k) w) (n - k + 1)) ls d ≡ push_over k (Some w) (top s n) ls d
   over_pushed h l q u =
       ap (λ (x : List ℕ). check x ls d) (top_push s (n - k) w u)
       ∙ sym (over_top h ∙ push_yes w (top s (n - k)) ls d l (rw (length_top s (n - k)) q))

@@ -1,15 +1,20 @@
 -- The turns of the loops over code, on lists. Assumes nothing.
 use Prim.Native.Nat.{ℕ, zero, suc, ◌+◌, ◌-◌, ◌*◌, ◌≤◌, ◌<◌}
-use mathlib.Core.Path.{◌≡◌, refl, ◌∙◌}
+use mathlib.Core.Path.{◌≡◌, refl, sym, ap, subst, ◌∙◌}
 use mathlib.Core.List.{List, [], ◌∷◌}
 use native.Mathlib.Omega.{arith}
 use lib.ListN.{length, take, drop}
 use Rattle.plan.specs.declared.Item.{Item}
 use Rattle.plan.specs.Items.{decode_all}
-use Rattle.plan.specs.Sound.{Check, check, broken, Rules, check1, check_step, check_all, ended, unended, end_of}
+use Rattle.plan.specs.Sound.{Check, check, broken, Rules, check1, check_step, check_all, unended, end_of}
 use Rattle.plan.specs.Items.{item_at}
 use Rattle.plan.specs.Waits.{top}
+use Rattle.soundness.specs.Steps.{masks, end_at, Masked}
 use Rattle.plan.proofs.Lists.{item_next}
+use Rattle.std.specs.Bool.{then_some}
+use lib.Dec.{eqb}
+use mathlib.Core.Bool.{Bool}
+use borrow.Author.Tests.{ne_eqb}
 
 pub check_broken : (t : Rules) (is : List Item) → check_all t is broken ≡ broken
 unfolding check_all check_step
@@ -42,14 +47,15 @@ pub check_done : (t : Rules) (p : List ℕ) (at items i : ℕ) (k : Check) → i
 unfolding check_all
 check_done t p at items i k h = rw (rest_none p at items i h)
 
-pub end_some : (s : List ℕ) (n : ℕ) (ls : List ℕ) (d : ℕ) → n ≡ 0 → ended d ≡ end_of (check (top s n) ls d)
+-- at the end none may wait
+pub end_told : (s : List ℕ) (n : ℕ) (ls : List ℕ) (d : ℕ) → end_at (then_some (eqb n 0) d) ≡ end_of (check (top s n) ls d)
 unfolding end_of top
-end_some s n ls d e = rw e
+end_told s zero ls d = refl
+end_told s (suc n) ls d = ap (λ (b : Bool). end_at (then_some b d)) (ne_eqb (suc n) 0 (λ e. omega arith))
 
-pub end_none : (s : List ℕ) (n : ℕ) (ls : List ℕ) (d : ℕ) → (n ≡ 0 → ⊥) → unended ≡ end_of (check (top s n) ls d)
-unfolding end_of top
-end_none s zero ls d h = absurd (h refl)
-end_none s (suc n) ls d h = refl
+pub masked_told : (n d : ℕ) → d < masks → Masked (then_some (eqb n 0) d)
+masked_told zero d h = h
+masked_told (suc n) d h = subst (λ (b : Bool). Masked (then_some b d)) (sym (ne_eqb (suc n) 0 (λ e. omega arith))) tt
 
 pub end_broken : unended ≡ end_of broken
 unfolding end_of

@@ -16,8 +16,7 @@ use Rattle.plan.specs.Layout.{present_at, code_at, memory_width_at}
 use Rattle.plan.specs.Sound.{Check, check, broken, Rules, push, test, check1, check_step, check_all, output_ok, memory_ok, slot_width, keepable, slots, unset, end_of, ended, rule_check}
 use Rattle.plan.specs.Sound.{rules_of}
 use Rattle.soundness.specs.Steps.{push_over}
-use Rattle.item_widths.specs.declared.Width.{Width}
-use Rattle.item_widths.specs.declared.Width.TheVariants.{None, Of}
+use Rattle.std.specs.Prelude.{Option, Some, None}
 use Rattle.plan.specs.Items.{acts_of}
 use Rattle.plan.proofs.Tests.{and_left, and_right}
 use Rattle.soundness.proofs.Laws.{pushes}
@@ -104,10 +103,10 @@ module _ (P : List ℕ → Type 0) where
       go true = h
       go false = tt
 
-  after_over : (k : ℕ) (v : Width) (ws ls : List ℕ) (d : ℕ) → P ls → After P (push_over k v ws ls d)
+  after_over : (k : ℕ) (v : Option ℕ) (ws ls : List ℕ) (d : ℕ) → P ls → After P (push_over k v ws ls d)
   unfolding push_over
   after_over k None ws ls d h = tt
-  after_over k (Of w) ws ls d h = go (ltb (length ws) k)
+  after_over k (Some w) ws ls d h = go (ltb (length ws) k)
     where
       go : (b : Bool) → After P (elim b [ true ↦ broken | false ↦ push w (drop k ws) ls d ])
       go true = tt

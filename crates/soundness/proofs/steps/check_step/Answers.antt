@@ -1,22 +1,21 @@
 -- `check_step` meets its contract. Assumes nothing.
 use mathlib.Core.Path.{sym, ◌∙◌}
+use Rattle.std.specs.Prelude.{None}
 use Rattle.plan.specs.Sound.{memory_ok, slot_width, keepable}
 use Rattle.plan.specs.Waits.{top}
 use Rattle.plan.proofs.Arms.{leaves}
-use Rattle.item_widths.specs.declared.Width.TheVariants.{None}
 use Rattle.soundness.specs.Steps.{push_over}
 use Rattle.soundness.proofs.Laws.{left_width}
 use Rattle.soundness.proofs.steps.check_step.Goals as goal
 
-pub returns-in_default-width_of : goal.returns-in_default-width_of
+pub returns-in_err-w-in_default : goal.returns-in_err-w-in_default
 unfolding push_over
-returns-in_default-width_of c =
+returns-in_err-w-in_default c =
     let a = c.args in
-    let e = sym c.width_of.ensures ∙ c.in_default-width_of.is in
-    record {
+    rw c.from_residual.ensures (record {
       stands = tt;
-      same = left_width a.plan.now a.present a.taken a.ls.now a.assigned a.i (top a.ws.now a.n) (leaves a.i c.in_default.not-Keep c.in_default.not-Assign c.in_default.not-Write) None e;
-    }
+      same = left_width a.plan.now a.present a.taken a.ls.now a.state.assigned a.i (top a.ws.now a.state.waits) (leaves a.i c.in_default.not-Keep c.in_default.not-Assign c.in_default.not-Write) None (sym c.in_err-w-in_default.ensures);
+    })
 
 pub returns-in-Keep : goal.returns-in-Keep
 unfolding slot_width keepable
@@ -37,13 +36,11 @@ returns-in-Write c =
     let ls = c.args.ls.now in
     record { stands = (c.write.ensures ls).stands ws c.requires.0; same = rw c.in-Write.is ((c.write.ensures ls).same ws c.waiting-in-Write.ensures.0) }
 
-pub returns-in-Of : goal.returns-in-Of
-returns-in-Of c =
+pub returns-in_ok-w-in_default : goal.returns-in_ok-w-in_default
+returns-in_ok-w-in_default c =
     let a = c.args in
-    let ws = top a.ws.now a.n in
-    let e = sym c.width_of.ensures ∙ c.in-Of.is in
     record {
       stands = c.push_over.ensures.stands;
       same = (rw c.takes.ensures at (c.push_over.ensures.same a.ls.now))
-          ∙ left_width a.plan.now a.present a.taken a.ls.now a.assigned a.i ws (leaves a.i c.in_default.not-Keep c.in_default.not-Assign c.in_default.not-Write) _ e;
+          ∙ left_width a.plan.now a.present a.taken a.ls.now a.state.assigned a.i (top a.ws.now a.state.waits) (leaves a.i c.in_default.not-Keep c.in_default.not-Assign c.in_default.not-Write) _ (sym c.in_ok-w-in_default.ensures);
     }
