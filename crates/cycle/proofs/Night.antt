@@ -1,5 +1,5 @@
 -- A run, cycle by cycle, on lists. Assumes nothing.
-use Prim.Native.Nat.{ℕ, suc, ◌+◌, ◌*◌, ◌≤◌, ◌<◌}
+use Prim.Native.Nat.{ℕ, suc, ◌+◌, ◌-◌, ◌*◌, ◌≤◌, ◌<◌}
 use mathlib.Core.Path.{◌≡◌, refl, sym, ap, ap₂, ◌∙◌, subst}
 use mathlib.Core.List.{List, [], ◌∷◌, ◌++◌, append-nil, append_assoc}
 use mathlib.Core.Bool.{Bool, true, false, ◌&&◌}
@@ -150,10 +150,11 @@ module _ (p masks values memory outputs answers : List ℕ) where
       )
 
 -- a cycle's part of the tables has a number for each port
-pub part_counts : (p values memory outputs : List ℕ) (at : ℕ) → at + port_count p ≤ length values → at + port_count p ≤ length outputs → length memory ≡ cells_before p (memory_count p)
-    → counts p (take (port_count p) (drop at values)) memory (take (port_count p) (drop at outputs)) ≡ true
-part_counts p values memory outputs at h k m =
-    counted p (take (port_count p) (drop at values)) memory (take (port_count p) (drop at outputs)) (simp (length-take, length-drop) (omega arith)) (simp (length-take, length-drop) (omega arith)) m
+pub part_counts : (p values memory outputs : List ℕ) (at n : ℕ) → n ≡ port_count p → at + n ≤ length values → at + n ≤ length outputs → length memory ≡ cells_before p (memory_count p)
+    → counts p (take (at + n - at) (drop at values)) memory (take (at + n - at) (drop at outputs)) ≡ true
+part_counts p values memory outputs at n e h k m =
+    let d : at + n - at ≡ n = omega arith in
+    rw d (counted p (take n (drop at values)) memory (take n (drop at outputs)) (simp (length-take, length-drop) (omega arith)) (simp (length-take, length-drop) (omega arith)) m)
 
 -- the tables have room for the next cycle
 pub room_for : (p masks values memory outputs answers : List ℕ) (k at n : ℕ) → tables_fit p masks values memory outputs answers ≡ true → n ≡ port_count p → at ≡ k * n → k < length masks
