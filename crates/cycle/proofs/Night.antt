@@ -1,21 +1,19 @@
 -- A run, cycle by cycle, on lists. Assumes nothing.
-use Prim.Native.Nat.{ℕ, suc, ◌+◌, ◌*◌, ◌/◌, ◌%◌, ◌≤◌, ◌<◌}
+use Prim.Native.Nat.{ℕ, suc, ◌+◌, ◌-◌, ◌*◌, ◌≤◌, ◌<◌}
 use mathlib.Core.Path.{◌≡◌, refl, sym, ap, ap₂, ◌∙◌, subst}
 use mathlib.Core.List.{List, [], ◌∷◌, ◌++◌, append-nil, append_assoc}
 use mathlib.Core.Bool.{Bool, true, false, ◌&&◌}
 use native.Mathlib.Numerals.{add-one}
-use native.Mathlib.Nat.{mul-le-mul_right, suc-mul, div-add-mod', mul-mod_left, mul-div_cancel}
+use native.Mathlib.Nat.{mul-le-mul_right, suc-mul}
 use native.Mathlib.Omega.{arith}
-use lib.Dec.{eqb, leb}
+use lib.Dec.{eqb}
 use lib.ListN.{length, get_or, set, take, drop, length-append, length-take, length-drop, drop_of_length-le}
 use lib.Seq.{take_all, take_at, drop_at, length-take-le, drop-cons, drop-drop, take-suc-set, lt-length-set}
-use borrow.Author.Tests.{leb-true, eqb-true, eqb-false, eq-eqb, ne_eqb}
+use borrow.Author.Tests.{eqb-true, eq-eqb}
 use Rattle.language.specs.Parts.{each}
 use Rattle.language.specs.Meaning.{Outcome, memory_left}
-use Rattle.plan.specs.Layout.{form, port_count, memory_count, cells_before}
-use Rattle.plan.specs.Sound.{sound_of, sections_ok, all_up_to, port_ok}
-use Rattle.plan_sections.specs.Parts.{ports_part, memories_part, groups_part, rules_part}
-use Rattle.plan_sections.proofs.Parts.{sections_parts}
+use Rattle.plan.specs.Layout.{port_count, memory_count, cells_before}
+use Rattle.plan.specs.Sound.{sound_of}
 use Rattle.plan.proofs.Tests.{and_left, and_right}
 use Rattle.judged.specs.declared.Refusal.TheVariants.{Unsound, Miscounted}
 use Rattle.judged.specs.Answers.{number_of}
@@ -60,12 +58,6 @@ part_left d ys rest at n h e =
 
 pub part_ports : (d : List ℕ) (at n k : ℕ) → k ≡ n → at + n ≤ length d → length (take k (drop at d)) ≡ n
 part_ports d at n k e h = rw e (simp (length-take, length-drop) (omega arith))
-
-pub part_length : (d ys : List ℕ) (at n : ℕ) → at + n ≤ length d → length ys ≡ n → length (take at d ++ (ys ++ drop n (drop at d))) ≡ length d
-part_length d ys at n h e =
-    let w : at ≤ length d = omega arith in
-    length-append (take at d) (ys ++ drop n (drop at d))
-    ∙ ap₂ ◌+◌ (length-take-le at d w) (length-append ys (drop n (drop at d)) ∙ ap₂ ◌+◌ e (ap length (drop-drop n at d) ∙ length-drop (at + n) d)) ∙ omega arith
 
 module _ (p masks values memory₀ outputs₀ : List ℕ) (k at : ℕ) (memory outputs answers : List ℕ) (h : k < length masks)
     (r : Runs p masks values memory₀ outputs₀ k at memory outputs answers) where
@@ -126,14 +118,6 @@ turns_are p (m ∷ ms) values memory outputs =
 
 -- ---- the tests of a run
 
-pub times : (len n k : ℕ) → 1 ≤ n → (eqb (len / n) k && eqb (len % n) 0) ≡ eqb len (k * n)
-times len n k h = go (eqb (len / n) k) refl (eqb (len % n) 0) refl
-  where
-    go : (a : Bool) → eqb (len / n) k ≡ a → (b : Bool) → eqb (len % n) 0 ≡ b → (a && b) ≡ eqb len (k * n)
-    go true d true e = sym (eq-eqb len (k * n) (sym (div-add-mod' len n) ∙ rw (eqb-true (len / n) k d, eqb-true (len % n) 0 e) (omega arith)))
-    go true d false e = sym (ne_eqb len (k * n) (λ z. eqb-false (len % n) 0 e (rw z (mul-mod_left k n))))
-    go false d b e = sym (ne_eqb len (k * n) (λ z. eqb-false (len / n) k d (rw z (mul-div_cancel k h))))
-
 module _ (p masks values memory outputs answers : List ℕ) where
   by_tables : Bool → Result
   by_tables b = elim b [ false ↦ result (number_of Miscounted) memory outputs answers | true ↦ turns_of p masks values memory outputs ]
@@ -165,19 +149,12 @@ module _ (p masks values memory outputs answers : List ℕ) where
         eqb-true (length memory) (cells_before p (memory_count p)) (and_right (eqb (length values) (length masks * port_count p) && eqb (length outputs) (length masks * port_count p) && eqb (length answers) (length masks * 2)) (eqb (length memory) (cells_before p (memory_count p))) h),
       )
 
-pub ports_some : (p : List ℕ) → sections_ok p ≡ true → 1 ≤ port_count p
-unfolding ports_part
-ports_some p h =
-    leb-true 1 (port_count p) (and_right (eqb (form p) 1) (leb 1 (port_count p))
-    (and_left (eqb (form p) 1 && leb 1 (port_count p)) (leb (port_count p) 16)
-    (and_left (eqb (form p) 1 && leb 1 (port_count p) && leb (port_count p) 16) (all_up_to p (port_count p) (port_ok p))
-    (and_left (ports_part p) (memories_part p && (groups_part p && rules_part p)) (sym (sections_parts p) ∙ h)))))
-
 -- a cycle's part of the tables has a number for each port
-pub part_counts : (p values memory outputs : List ℕ) (at : ℕ) → at + port_count p ≤ length values → at + port_count p ≤ length outputs → length memory ≡ cells_before p (memory_count p)
-    → counts p (take (port_count p) (drop at values)) memory (take (port_count p) (drop at outputs)) ≡ true
-part_counts p values memory outputs at h k m =
-    counted p (take (port_count p) (drop at values)) memory (take (port_count p) (drop at outputs)) (simp (length-take, length-drop) (omega arith)) (simp (length-take, length-drop) (omega arith)) m
+pub part_counts : (p values memory outputs : List ℕ) (at n : ℕ) → n ≡ port_count p → at + n ≤ length values → at + n ≤ length outputs → length memory ≡ cells_before p (memory_count p)
+    → counts p (take (at + n - at) (drop at values)) memory (take (at + n - at) (drop at outputs)) ≡ true
+part_counts p values memory outputs at n e h k m =
+    let d : at + n - at ≡ n = omega arith in
+    rw d (counted p (take n (drop at values)) memory (take n (drop at outputs)) (simp (length-take, length-drop) (omega arith)) (simp (length-take, length-drop) (omega arith)) m)
 
 -- the tables have room for the next cycle
 pub room_for : (p masks values memory outputs answers : List ℕ) (k at n : ℕ) → tables_fit p masks values memory outputs answers ≡ true → n ≡ port_count p → at ≡ k * n → k < length masks

@@ -39,6 +39,7 @@ pub fn cycle(
 }
 
 // Cycle after cycle, with a mask for each: 20 or 21 where nothing is run, else 0 and each cycle's own two numbers.
+// No Result: its promise to users, `run_of`, is of the number.
 pub fn run(
     plan: &[u32],
     masks: &[u32],

@@ -1,6 +1,5 @@
 // A run of cycles over a plan that is known to be sound.
-ghost use Rattle.std.specs.Prelude.{◌≡◌, true, ◌*◌, ◌≤◌, eqb, length};
-ghost use Rattle.plan.specs.Layout.{port_count};
+ghost use Rattle.std.specs.Prelude.{◌≡◌, true, ◌*◌, eqb, length};
 ghost use Rattle.plan.specs.Sound.{sound_of};
 ghost use Rattle.cycle.specs.Run.{result as run_result, turns_of, tables_fit};
 
@@ -24,7 +23,6 @@ pub fn tables_fit(
     outputs: &[u64],
     answers: &[u32],
 ) -> bool
-    requires { 1 ≤ port_count plan.now }
     ensures { result ≡ tables_fit plan.now masks.now values.now memory.now outputs.now answers.now }
 {
     let n = place(port_count(plan));
@@ -50,6 +48,7 @@ pub fn turns(
     let n = place(port_count(plan));
     let mut tables = Tables::new();
     for (k, mask) in masks.iter().enumerate() {
+        // Parts by their ends and no zip of chunks, which would be four iterators, two of them lent to write, for two lines.
         let at = k * n;
         let end = at + n;
         let done = Done::from(turn(

@@ -19,8 +19,7 @@ pub extern "C" fn plan_cycle(
     ensures outputs_after { outputs.new ≡ (cycle_of plan.now mask values.now memory.old outputs.old).outputs }
     ensures memory_after { memory.new ≡ (cycle_of plan.now mask values.now memory.old outputs.old).memory }
 {
-    let done = cycle::cycle(plan, mask, values, memory, outputs);
-    done.answer
+    cycle::cycle(plan, mask, values, memory, outputs).answer
 }
 
 #[unsafe(no_mangle)]

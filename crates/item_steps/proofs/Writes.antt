@@ -7,7 +7,7 @@ use native.Mathlib.Omega.{arith}
 use lib.Dec.{eqb}
 use lib.ListN.{length, get_or, set, length-set, replicate, length-replicate, get_or-replicate, get_or-append}
 use lib.Seq.{set_comm, take-set-lt, take_at, get_or-set_same, get_or-set_other}
-use borrow.Author.Tests.{lt-ltb, le-ltb, eq-eqb, ne_eqb, eqb-true, eqb-false}
+use borrow.Author.Tests.{lt-ltb, le-ltb, eqb-true, eqb-false}
 use Rattle.language.specs.Meaning.{Change, touched, twice, written}
 use Rattle.item_steps.specs.Machine.{write_to}
 use Rattle.item_steps.specs.Ready.{Buffered}

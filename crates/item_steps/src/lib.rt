@@ -27,8 +27,10 @@ pub struct Tables {
 }
 
 impl Tables {
-    // With any numbers in them: a cycle begins with `machine::act`, which looks at none.
-    pub fn new() -> Tables {
+    // No number of them counts before `begin`.
+    pub fn new() -> Tables
+        ensures { result.clash ≡ false }
+    {
         Tables {
             stack: [0; WAITS],
             next: [0; CELLS],
@@ -126,7 +128,14 @@ fn holds(slots: &[u64], k: u32, label: u32) -> bool
 }
 
 // An item that leaves a value: how many wait then. Each arm reads and writes for itself, so that one jump leads to all it does.
-fn leave(i: Item, values: &[u64], memory: &[u64], slots: &[u64], s: &mut [u64; WAITS], n: usize) -> usize
+fn leave(
+    i: Item,
+    values: &[u64],
+    memory: &[u64],
+    slots: &[u64],
+    s: &mut [u64; WAITS],
+    n: usize,
+) -> usize
     requires { (n ≤ waiting) × (acts_of i ≡ false) × ((outputs : List ℕ) × Ready values.now memory.now s.old n slots.now outputs i) }
     ensures upper_bound { result ≤ waiting }
     ensures result_after { top s.new result ≡ left_by values.now memory.now slots.now s.old n i }

@@ -22,7 +22,7 @@ use Rattle.judged.specs.Groups.{bits_agree, matches_of, matching, Fired, fired, 
 use Rattle.judged.specs.Tests.{all_below}
 use Rattle.judged.specs.declared.Refusal.{Refusal}
 use Rattle.judged.specs.declared.Refusal.TheVariants.{Unmatched, Ambiguous}
-use Rattle.std.specs.Prelude.{Option, Some, None, Result, Ok, Err, is_some}
+use Rattle.std.specs.Prelude.{Option, Some, None, Ok, Err, is_some}
 use Rattle.std.specs.Option.{ok_or}
 use Rattle.judged.specs.Answers.{number_of}
 use Rattle.judged.specs.Judged.{only_of}

@@ -1,4 +1,5 @@
 // The tests of a cycle, before anything of it is worked out: numbers 21 and 22.
+// They are joined by `&` and not by `all` or `&&`: each is made, and no branch waits for the one before it.
 ghost use Rattle.std.specs.Prelude.{◌≡◌, ◌+◌, ◌≤◌, bit_or, length};
 ghost use Rattle.std.specs.List.{fold};
 ghost use Rattle.plan.specs.Layout.{port_count, memory_count, memory_size_at, cells_before};

@@ -67,9 +67,6 @@ module _ (os : List ℕ) (n m k : ℕ) (z : os ≡ zeros k) (e : n ≡ m) (h : m
   pub part_long : length (take n os) ≡ m
   part_long = ap length part_of_zeros ∙ length-replicate m 0
 
-  pub zeros_room : n ≤ length os
-  zeros_room = omega (arith, ap length z ∙ length-replicate k 0)
-
 -- what the rules leave in the part of the outputs that the plan has
 module _ (p values memory fired os : List ℕ) (g n : ℕ) (d : g ≡ group_count p) (e : n ≡ port_count p) (h : port_count p ≤ 16) (z : os ≡ zeros 16) where
   pub acted : (ys rest : List ℕ) {t : Tables} → length ys ≡ length (take n os)

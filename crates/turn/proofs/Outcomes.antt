@@ -1,12 +1,11 @@
 -- The answers of a cycle, test by test. Assumes nothing.
 use Prim.Native.Nat.{ℕ, zero, suc, ◌+◌, ◌≤◌}
 use mathlib.Core.Path.{◌≡◌, refl, sym, ap, ap₂, ◌∙◌}
-use mathlib.Core.List.{List, [], append-nil}
+use mathlib.Core.List.{List, []}
 use mathlib.Core.Bool.{Bool, true, false, ◌&&◌}
 use native.Mathlib.Omega.{arith}
 use lib.Dec.{eqb, leb}
-use lib.ListN.{length, take, replicate, drop_of_length-le}
-use lib.Seq.{paste}
+use lib.ListN.{length, take, replicate}
 use borrow.Author.Tests.{eq-eqb, eqb-true, leb-true}
 use Rattle.language.specs.Values.{ones_of}
 use Rattle.language.specs.Meaning.{Outcome, written}

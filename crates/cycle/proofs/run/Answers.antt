@@ -1,14 +1,10 @@
 -- `run` meets its contract. Assumes nothing.
 use mathlib.Core.Path.{sym, ◌∙◌}
-use Rattle.judged.proofs.Fired.{sound_sections}
-use Rattle.cycle.proofs.Night.{run_20, run_21, run_0, ports_some}
+use Rattle.cycle.proofs.Night.{run_20, run_21, run_0}
 use Rattle.cycle.proofs.run.Goals as goal
 
 pub returns-then-not-sound : goal.returns-then-not-sound
 returns-then-not-sound c = let args = c.args in rw c.from.ensures (sym (run_20 args.plan.now args.masks.now args.values.now args.memory.now args.outputs.now args.answers.now (sym c.sound.ensures ∙ c.if-not-sound.true)))
-
-pub tables_fit-requires : goal.tables_fit-requires
-tables_fit-requires c = let args = c.args in ports_some args.plan.now (sound_sections args.plan.now (sym c.sound.ensures ∙ c.if-not-sound.false)).0
 
 pub returns-then-not-tables_fit : goal.returns-then-not-tables_fit
 returns-then-not-tables_fit c =

@@ -5,7 +5,7 @@ use Rattle.cycle_abi.proofs.plan_cycle.Goals as goal
 
 pub returns : goal.returns
 returns c = record {
-  r_value = ap (λ (o : Outcome). o.answer) c.cycle-done.ensures;
-  outputs_after = ap (λ (o : Outcome). o.outputs) c.cycle-done.ensures;
-  memory_after = ap (λ (o : Outcome). o.memory) c.cycle-done.ensures;
+  r_value = ap (λ (o : Outcome). o.answer) c.cycle.ensures;
+  outputs_after = ap (λ (o : Outcome). o.outputs) c.cycle.ensures;
+  memory_after = ap (λ (o : Outcome). o.memory) c.cycle.ensures;
 }

@@ -37,9 +37,7 @@ turn-requires-clause-outputs_value c =
     let e = c.place-n.ensures.0 ∙ c.port_count.ensures in
     let room = loop.invariant.room c.loop-k-test.true in
     let t = tables_told p args.masks.now args.values.now args.memory.now args.outputs.now args.answers.now c.requires.answers_value in
-    let at = loop.k * c.place-n.result in
-    let d : at + c.place-n.result - at ≡ port_count p = omega (arith, e) in
-    rw d (part_counts p args.values.now loop.memory loop.outputs at (omega (arith, room.0, e)) (omega (arith, room.1, e)) (loop.auto.memory ∙ t.3))
+    part_counts p args.values.now loop.memory loop.outputs _ c.place-n.result e (omega (arith, room.0)) (omega (arith, room.1)) (loop.auto.memory ∙ t.3)
 
 pub bounds-answers-q : goal.bounds-answers-q
 bounds-answers-q c = let room = c.loop-k.invariant.room c.loop-k-test.true in omega (arith, room.2)

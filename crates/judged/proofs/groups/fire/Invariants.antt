@@ -10,5 +10,5 @@ use Rattle.judged.proofs.groups.fire.Given as goal
 abbrev pub invariant-loop-g : goal.invariant-loop-g
 invariant-loop-g l = record {
   before : l.first ≡ rules_before l.plan l.g;
-  fired : firing l.plan l.mask 0 l.groups ≡ after l.plan (take l.g l.fired) (firing l.plan l.mask l.g (l.groups - l.g))
+  fired : firing l.plan l.mask 0 l.groups ≡ after l.plan (take l.g l.fired) (firing l.plan l.mask l.g (l.groups - l.g));
 }

@@ -1,15 +1,12 @@
 -- `run_items` meets its contract. Assumes nothing.
 use native.Mathlib.Omega.{arith}
 use Prim.Native.Nat.{◌+◌, ◌-◌, ◌*◌, ◌≤◌, ◌<◌}
-use mathlib.Core.Path.{◌≡◌, refl, sym, ◌∙◌, subst}
+use mathlib.Core.Path.{◌≡◌, refl, sym, ◌∙◌}
 use mathlib.Core.List.{[]}
 use lib.ListN.{length}
-use Rattle.plan.specs.declared.Item.{Item}
 use Rattle.plan.specs.Waits.{top}
 use Rattle.plan.specs.Items.{item_at}
-use Rattle.soundness.proofs.Turns.{rest}
 use Rattle.item_steps.specs.Machine.{state, exec1}
-use Rattle.item_steps.specs.Ready.{Ready}
 use Rattle.machine.specs.Safety.{items_from}
 use Rattle.machine.proofs.Turns.{safe_any, exec_turn, exec_done, turn_found, turn_ready, left_state, left_turn, not_bad, ran_of}
 use Rattle.machine.proofs.code.run_items.Goals as goal
@@ -48,7 +45,7 @@ step-n-requires-clause-ready c =
     let safe = c.requires.safe_items in
     let u = loop.invariant.run safe.1 safe.2 safe.4 safe.3 c.requires.tables.1.0 c.requires.tables.1.1 in
     rw c.fetch_sound-item.ensures (turn_ready args.plan.now safe.1 safe.2 args.values.now args.memory.now safe.3 (args.from + 4 * loop.i) args.items loop.i loop.n loop.slots loop.outputs
-        loop.invariant.few (omega arith) (omega (arith, safe.0)) u.1 u.2)
+    loop.invariant.few (omega arith) (omega (arith, safe.0)) u.1 u.2)
 
 pub loop-i-preserved : goal.loop-i-preserved
 loop-i-preserved c =

@@ -15,5 +15,5 @@ invariant-loop-i l = record {
   run : (present taken : ℕ) → Safe l.plan present taken (items_from l.plan l.from l.items) (state [] l.initial.slots l.initial.outputs [])
       → CodeGiven l.plan present l.values l.memory → (qs : List (Change ℕ)) → Writes l.memory l.initial.tables qs
       → (s : State) × Left l.memory l.n l.slots l.outputs l.tables s × Safe l.plan present taken (rest l.plan (l.from + 4 * l.i) l.items l.i) s
-        × (exec_all l.values l.memory (rest l.plan (l.from + 4 * l.i) l.items l.i) s ≡ items_run l.plan l.values l.memory l.initial.slots l.initial.outputs l.from l.items qs)
+      × (exec_all l.values l.memory (rest l.plan (l.from + 4 * l.i) l.items l.i) s ≡ items_run l.plan l.values l.memory l.initial.slots l.initial.outputs l.from l.items qs);
 }
