@@ -10,7 +10,7 @@ use borrow.Author.Tests.{eq-eqb, ne_eqb, le-leb, lt-leb}
 use Rattle.language.specs.Text.{earliest}
 use Rattle.words.specs.Found.{place_told, earlier_of}
 use Rattle.words.specs.Found.{Place}
-use Rattle.std.specs.Prelude.{Some, None}
+use Rattle.std.specs.Prelude.{Option as Optional, Some, None}
 use Rattle.std.specs.Option.{unwrap_or}
 use Rattle.tape.specs.Walk.{op_at, place_at, value_at}
 use Rattle.tape.proofs.Walks.{told_earlier}
@@ -142,25 +142,25 @@ module _ (ps : List ℕ) (limit words start : ℕ) where
   unfolding long_in
   long h = simp (long_in, lt-leb _ _ h)
 
-module _ (ps : List ℕ) (t : List ℕ) (end last other : ℕ) where
-  abbrev Held : Place → Type 0
-  Held r = r ≡ place_told (earliest (held_in ps (before t end) last other))
+module _ (ps : List ℕ) (t : List ℕ) (end : ℕ) where
+  abbrev Held : (last other : Optional ℕ) → Place → Type 0
+  Held last other r = r ≡ place_told (earliest (held_in ps (before t end) last other))
 
-  pub held_none : last ≡ 0 → Held None
+  pub held_none : (other : Optional ℕ) → Held None other None
   unfolding held_in earliest place_told
-  held_none e = sym (simp (held_in, eq-eqb _ _ e))
+  held_none other = refl
 
-  module _ (n : last ≡ 0 → ⊥) {w : Length} (h : IsWhole t end w) {a : Place} (f : a ≡ place_told (earliest (long_in ps last w.words w.start))) where
-    first_is : long_in ps last w.words w.start ≡ long_in ps last (back one (before t end)).words (unwrap_or (back one (before t end)).start 0)
-    first_is = ap₂ (long_in ps last) h.words h.start
+  module _ (limit : ℕ) {w : Length} (h : IsWhole t end w) {a : Place} (f : a ≡ place_told (earliest (long_in ps limit w.words w.start))) where
+    first_is : long_in ps limit w.words w.start ≡ long_in ps limit (back one (before t end)).words (unwrap_or (back one (before t end)).start 0)
+    first_is = ap₂ (long_in ps limit) h.words h.start
 
-    pub held_one : other ≡ 0 → Held a
+    pub held_one : Held (Some limit) None a
     unfolding held_in
-    held_one e = f ∙ ap (λ (l : List ℕ). place_told (earliest l)) first_is ∙ sym (simp (held_in, ne_eqb _ _ n, eq-eqb _ _ e))
+    held_one = f ∙ ap (λ (l : List ℕ). place_told (earliest l)) first_is
 
-    pub held_two : (other ≡ 0 → ⊥) → {v : Length} → IsWhole t w.at v → {b r : Place} → b ≡ place_told (earliest (long_in ps other v.words v.start)) → r ≡ both_of a b → Held r
+    pub held_two : (other : ℕ) {v : Length} → IsWhole t w.at v → {b r : Place} → b ≡ place_told (earliest (long_in ps other v.words v.start)) → r ≡ both_of a b → Held (Some limit) (Some other) r
     unfolding held_in
-    held_two m {v} k {b} {r} g q = q ∙ ap₂ both_of f g ∙ both_told _ _ ∙ ap (λ (l : List ℕ). place_told (earliest l)) (ap₂ (λ (x y : List ℕ). x ++ y) first_is second_is ∙ sym (simp (held_in, ne_eqb _ _ n, ne_eqb _ _ m)))
+    held_two other {v} k g q = q ∙ ap₂ both_of f g ∙ both_told _ _ ∙ ap (λ (l : List ℕ). place_told (earliest l)) (ap₂ (λ (x y : List ℕ). x ++ y) first_is second_is)
       where
         second_is : long_in ps other v.words v.start ≡ long_in ps other (back one (rest one (before t end))).words (unwrap_or (back one (rest one (before t end))).start 0)
         second_is = ap₂ (long_in ps other) k.words k.start ∙ ap (λ (l : List Triple). long_in ps other (back one l).words (unwrap_or (back one l).start 0)) h.rest

@@ -1,7 +1,7 @@
 -- The types and whole expressions of a tape: how many words they have, and the place of the first word too many. Assumes nothing: these are definitions.
 use Rattle.std.specs.Prelude.{◌≡◌, Bool, true, false, not, ◌&&◌, List, [], ◌∷◌, ◌++◌, ℕ, zero, suc, ◌+◌, ◌*◌, ◌-◌, ◌≤◌, eqb, leb, get_or, drop}
 use Rattle.language.specs.Words.{bytes}
-use Rattle.std.specs.Prelude.{Some, None}
+use Rattle.std.specs.Prelude.{Option as Optional, Some, None}
 use Rattle.std.specs.Option.{is_some, unwrap_or}
 use Rattle.words.specs.Found.{Place, earlier_of}
 use Rattle.tape.specs.Walk.{op_at, place_at, value_at}
@@ -91,16 +91,12 @@ after_in (q ∷ ps) p n = elim (eqb q p) [ true ↦ first_of (drop n (q ∷ ps))
 unfoldable pub long_in : List ℕ → (limit words start : ℕ) → List ℕ
 long_in ps limit words start = elim (leb words limit) [ true ↦ [] | false ↦ after_in ps start limit ]
 
--- those of the part before an item by a limit, and of the one before it by another. No limit, 0: no part.
-unfoldable pub held_in : List ℕ → List Triple → (last other : ℕ) → List ℕ
-held_in ps l last other =
-    elim (eqb last 0) [
-      | true ↦ []
-      | false ↦ elim (eqb other 0) [
-        | true ↦ long_in ps last (back one l).words (unwrap_or (back one l).start 0)
-        | false ↦ long_in ps last (back one l).words (unwrap_or (back one l).start 0) ++ long_in ps other (back one (rest one l)).words (unwrap_or (back one (rest one l)).start 0)
-      ]
-    ]
+-- those of the part before an item by a limit, and of the one before it by another. No limit: no part.
+unfoldable pub held_in : List ℕ → List Triple → (last other : Optional ℕ) → List ℕ
+held_in ps l None other = []
+held_in ps l (Some a) None = long_in ps a (back one l).words (unwrap_or (back one l).start 0)
+held_in ps l (Some a) (Some b) =
+    long_in ps a (back one l).words (unwrap_or (back one l).start 0) ++ long_in ps b (back one (rest one l)).words (unwrap_or (back one (rest one l)).start 0)
 
 unfoldable pub both_of : Place → Place → Place
 both_of (Some p) b = earlier_of p b

@@ -146,26 +146,23 @@ pub fn both(a: Option<u32>, b: Option<u32>) -> Option<u32>
     }
 }
 
-// The faults of the parts before an item: the last one by a limit, the one before it by another. No limit, 0: no part.
+// The faults of the parts before an item: the last one by a limit, the one before it by another, if they have one.
 pub fn held(
     table: &[u32],
     many: usize,
     tape: &[u32],
     end: usize,
-    last: u32,
-    other: u32,
+    last: Option<u32>,
+    other: Option<u32>,
 ) -> Option<u32>
     requires { (4 * many ≤ length table.now) × (3 * end ≤ length tape.now) }
     ensures { result ≡ place_told (earliest (held_in (places_in table.now 0 many) (before tape.now end) last other)) }
 {
-    if last == 0 {
-        return None;
-    }
+    let limit = last?;
     let part = whole(tape, end);
-    let first = too_long(table, many, part, last);
-    if other == 0 {
-        return first;
+    let first = too_long(table, many, part, limit);
+    match other {
+        Some(limit) => both(first, too_long(table, many, whole(tape, part.at), limit)),
+        None => first,
     }
-    let more = whole(tape, part.at);
-    both(first, too_long(table, many, more, other))
 }

@@ -24,31 +24,18 @@ fn at_fault(text: &[u8], tape: &[u32], many: usize, rule: usize, lets: usize, i:
     ensures { result ≡ faulty text.now tape.now many rule lets i }
 {
     let called = name(text, tape[3 * i + 1] as usize);
+    let anywhere = |class| said(text, tape, 0, many, class, called);
+    let since = |from, class| said(text, tape, from, i, class, called);
     match tape[3 * i] {
-        SIGNED => {
-            said(text, tape, 0, i, Class::Signed, called)
-                || !said(text, tape, 0, many, Class::Declared, called)
-        }
-        DECLARED => {
-            !said(text, tape, 0, many, Class::Signed, called)
-                || said(text, tape, 0, i, Class::Taken, called)
-        }
-        MEMORY => said(text, tape, 0, i, Class::Taken, called),
-        ENVIRONMENT | VALUE => said(text, tape, 0, many, Class::Taken, called),
-        PORT => !said(text, tape, 0, many, Class::Declared, called),
-        PRESENT => {
-            !said(text, tape, 0, many, Class::Declared, called)
-                || said(text, tape, rule, i, Class::Present, called)
-        }
-        READ => {
-            !said(text, tape, 0, many, Class::Input, called)
-                && !said(text, tape, lets, i, Class::Val, called)
-        }
-        ASSIGN => !said(text, tape, 0, many, Class::Output, called),
-        VAL => {
-            said(text, tape, lets, i, Class::Val, called)
-                || said(text, tape, 0, many, Class::Taken, called)
-        }
+        SIGNED => since(0, Class::Signed) || !anywhere(Class::Declared),
+        DECLARED => !anywhere(Class::Signed) || since(0, Class::Taken),
+        MEMORY => since(0, Class::Taken),
+        ENVIRONMENT | VALUE => anywhere(Class::Taken),
+        PORT => !anywhere(Class::Declared),
+        PRESENT => !anywhere(Class::Declared) || since(rule, Class::Present),
+        READ => !anywhere(Class::Input) && !since(lets, Class::Val),
+        ASSIGN => !anywhere(Class::Output),
+        VAL => since(lets, Class::Val) || anywhere(Class::Taken),
         _ => false,
     }
 }

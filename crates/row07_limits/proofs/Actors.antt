@@ -152,8 +152,8 @@ module _ (ps : List ℕ) where
 
   val_faults_law : (r : Room) (l : List Triple) (d : Declared) (e : Expr) (p : ℕ) → item_faults ps r (onto e (onto_d d l)) 37 p (is_typed d) ≡ when (eqb r.vals 0) p ++ (whole_f ps e ++ things ps (declared_items d))
   unfolding onto_d is_typed declared_items each thing_f type_f whole_f item_faults full_for bad_size last_limit other_limit in_type when
-  val_faults_law r l untyped e p = ap (λ (x : List ℕ). when (eqb r.vals 0) p ++ x) (held_last ps (expr_whole e) l 256 refl ∙ sym (append-nil (whole_f ps e)))
-  val_faults_law r l (Declared.typed t) e p = ap (λ (x : List ℕ). when (eqb r.vals 0) p ++ x) (held_both ps (type_whole t) l (expr_whole e) 256 64 refl refl ∙ ap (λ (x : List ℕ). whole_f ps e ++ x) (sym (append-nil (type_f ps t))))
+  val_faults_law r l untyped e p = ap (λ (x : List ℕ). when (eqb r.vals 0) p ++ x) (held_last ps (expr_whole e) l 256 ∙ sym (append-nil (whole_f ps e)))
+  val_faults_law r l (Declared.typed t) e p = ap (λ (x : List ℕ). when (eqb r.vals 0) p ++ x) (held_both ps (type_whole t) l (expr_whole e) 256 64 ∙ ap (λ (x : List ℕ). whole_f ps e ++ x) (sym (append-nil (type_f ps t))))
 
   assign_run : (r : Room) (x : Assignment) → Runs ps r (flat_assignment x) (in_wholes (assigned x)) r
   unfolding flat_assignment assigned each whole_f item_faults full_for bad_size last_limit other_limit next_room left_of again_of when
@@ -163,7 +163,7 @@ module _ (ps : List ℕ) where
           _,
           plain _ _ _ refl _,
           told (is (ap₂ (λ (a b : List ℕ). a ++ b) (ap (each (thing_f ps)) (sym (append-nil (items e)))) (sym (append-nil (whole_f ps e)))))
-              (both (expr_does ps r l e) (single _ _ _ (held_last ps (expr_whole e) l 256 refl) refl)),
+              (both (expr_does ps r l e) (single _ _ _ (held_last ps (expr_whole e) l 256) refl)),
         );
       }
   assign_run r (write n a e) =
@@ -174,7 +174,7 @@ module _ (ps : List ℕ) where
           told
               (then (same_sum (things ps (items a) ∷ things ps (items e) ∷ whole_f ps a ∷ whole_f ps e ∷ []) ((nth 0 ⊕ nth 1) ⊕ (nth 3 ⊕ nth 2)) ((nth 0 ⊕ (nth 1 ⊕ nil)) ⊕ (nth 2 ⊕ (nth 3 ⊕ nil))) refl)
               (is (ap (λ (x : List ℕ). x ++ each (whole_f ps) (a ∷ e ∷ [])) (sym (each_append (thing_f ps) (items a) (items e ++ []) ∙ ap (λ (x : List ℕ). things ps (items a) ++ x) (each_append (thing_f ps) (items e) []))))))
-              (both (both (expr_does ps r l a) (expr_does ps r _ e)) (single _ _ _ (held_both ps (expr_whole a) l (expr_whole e) 256 256 refl refl) refl)),
+              (both (both (expr_does ps r l a) (expr_does ps r _ e)) (single _ _ _ (held_both ps (expr_whole a) l (expr_whole e) 256 256) refl)),
         );
       }
 

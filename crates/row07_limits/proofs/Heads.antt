@@ -17,6 +17,7 @@ use Rattle.tape.specs.Tape.{item, SIZE, ACTOR, SIGNED, DECLARED, MEMORY, is_type
 use Rattle.placed.proofs.Every.{each_append}
 use Rattle.placed.proofs.Same.{is, then}
 use Rattle.row07_limits.specs.declared.Room.{Room}
+use Rattle.std.specs.Prelude.{None}
 use Rattle.part_lengths.specs.Parts.{Triple, held_in}
 use Rattle.row07_limits.specs.Walk.{in_type, last_limit, other_limit, size_in, size_place_in, full_for, bad_size, left_of, again_of, all_room, next_room, item_faults}
 use Rattle.row07_limits.proofs.Sums.{nth, ◌⊕◌, nil, same_sum}
@@ -76,10 +77,10 @@ sum_of s (m ∷ ms) = sum_of (s + size_of m) ms
 module _ (ps : List ℕ) where
   -- ---- what a declaration holds
 
-  type_held : (l : List Triple) (d : Declared) → held_in ps (onto_d d l) (in_type (eqb (is_typed d) 1)) 0 ≡ things ps (declared_items d)
+  type_held : (l : List Triple) (d : Declared) → held_in ps (onto_d d l) (in_type (eqb (is_typed d) 1)) None ≡ things ps (declared_items d)
   unfolding onto_d is_typed declared_items each thing_f type_f in_type held_in
   type_held l untyped = refl
-  type_held l (Declared.typed t) = held_last ps (type_whole t) l 64 refl ∙ sym (append-nil (type_f ps t))
+  type_held l (Declared.typed t) = held_last ps (type_whole t) l 64 ∙ sym (append-nil (type_f ps t))
 
   odd : (b : Bool) (d : Declared) → eqb ((2 * one_if b + is_typed d) % 2) 1 ≡ eqb (is_typed d) 1
   unfolding one_if is_typed
@@ -96,7 +97,7 @@ module _ (ps : List ℕ) where
           _,
           plain _ _ _ refl _,
           both (decl_does ps r l p.type)
-              (single DECLARED p.called.at (2 * one_if p.input + is_typed p.type) (ap (λ (b : Bool). held_in ps (onto_d p.type l) (in_type b) 0) (odd p.input p.type) ∙ type_held l p.type) refl),
+              (single DECLARED p.called.at (2 * one_if p.input + is_typed p.type) (ap (λ (b : Bool). held_in ps (onto_d p.type l) (in_type b) None) (odd p.input p.type) ∙ type_held l p.type) refl),
         );
       }
 
@@ -110,11 +111,11 @@ module _ (ps : List ℕ) where
   size_does r l one = none
   size_does r l (cells n) = single _ _ _ refl refl
 
-  memory_held : (l : List Triple) (d : Declared) (z : Size) → held_in ps (onto_s z (onto_d d l)) (in_type (eqb (is_typed d) 1)) 0 ≡ things ps (declared_items d)
+  memory_held : (l : List Triple) (d : Declared) (z : Size) → held_in ps (onto_s z (onto_d d l)) (in_type (eqb (is_typed d) 1)) None ≡ things ps (declared_items d)
   unfolding onto_s onto_d is_typed declared_items each thing_f type_f in_type held_in
   memory_held l d one = type_held l d
   memory_held l untyped (cells n) = refl
-  memory_held l (Declared.typed t) (cells n) = held_last ps (size_whole n.at n.value (type_whole t)) l 64 refl ∙ sym (append-nil (type_f ps t))
+  memory_held l (Declared.typed t) (cells n) = held_last ps (size_whole n.at n.value (type_whole t)) l 64 ∙ sym (append-nil (type_f ps t))
 
   -- ---- the declarations
 

@@ -1,9 +1,8 @@
 -- What the walk does on types and expressions: the items that it leaves, and the faults, whatever their order. Assumes nothing.
 use mathlib.Core.Path.{◌≡◌, refl, sym, ap, ap₂, ◌∙◌}
-use mathlib.Core.Bool.{false}
 use mathlib.Core.List.{List, [], ◌∷◌, ◌++◌, append_assoc, append-nil}
 use Prim.Native.Nat.{ℕ, zero, suc, ◌+◌, ◌*◌, ◌≤◌, ◌<◌}
-use lib.Dec.{eqb, ltb}
+use lib.Dec.{ltb}
 use lib.ListN.{length, take}
 use Rattle.language.specs.Limits.{limits}
 use Rattle.language.specs.Names.{when}
@@ -19,6 +18,7 @@ use Rattle.placed.proofs.Every.{each_append}
 use Rattle.placed.proofs.Same as Same
 use Rattle.placed.proofs.Same.{Same, is, equal, then, swap}
 use Rattle.row07_limits.specs.declared.Room.{Room}
+use Rattle.std.specs.Prelude.{Some, None}
 use Rattle.std.specs.Option.{unwrap_or}
 use Rattle.part_lengths.specs.Parts.{Triple, before, back, one, long_in, held_in}
 use Rattle.row07_limits.specs.Walk.{last_limit, other_limit, size_in, full_for, bad_size, left_of, again_of, all_room, next_room, item_faults, room_at, faults_at}
@@ -97,15 +97,15 @@ module _ (ps : List ℕ) where
 
   -- the parts that an item holds
   module _ {on : List Triple → List Triple} {p n : ℕ} (x : Whole on p n) (l : List Triple) where
-    pub held_last : (k : ℕ) → eqb k 0 ≡ false → held_in ps (on l) k 0 ≡ long_in ps k n p
+    pub held_last : (k : ℕ) → held_in ps (on l) (Some k) None ≡ long_in ps k n p
     unfolding held_in
-    held_last k e = simp (held_in, e) (ap₂ (long_in ps k) (whole_words x l) (whole_start x l))
+    held_last k = ap₂ (long_in ps k) (whole_words x l) (whole_start x l)
 
-    pub held_both : {on' : List Triple → List Triple} {p' n' : ℕ} → Whole on' p' n' → (k j : ℕ) → eqb k 0 ≡ false → eqb j 0 ≡ false → held_in ps (on' (on l)) k j ≡ long_in ps k n' p' ++ long_in ps j n p
+    pub held_both : {on' : List Triple → List Triple} {p' n' : ℕ} → Whole on' p' n' → (k j : ℕ) → held_in ps (on' (on l)) (Some k) (Some j) ≡ long_in ps k n' p' ++ long_in ps j n p
     unfolding held_in
-    held_both y k j e d =
-        simp (held_in, e, d) (ap₂ (λ (a b : List ℕ). a ++ b) (ap₂ (long_in ps k) (whole_words y (on l)) (whole_start y (on l)))
-        (ap (λ (m : List Triple). long_in ps j (back one m).words (unwrap_or (back one m).start 0)) (whole_rest y (on l)) ∙ ap₂ (long_in ps j) (whole_words x l) (whole_start x l)))
+    held_both y k j =
+        ap₂ (λ (a b : List ℕ). a ++ b) (ap₂ (long_in ps k) (whole_words y (on l)) (whole_start y (on l)))
+        (ap (λ (m : List Triple). long_in ps j (back one m).words (unwrap_or (back one m).start 0)) (whole_rest y (on l)) ∙ ap₂ (long_in ps j) (whole_words x l) (whole_start x l))
 
   -- ---- types and expressions
 
@@ -126,7 +126,7 @@ module _ (ps : List ℕ) where
   breadth_does : (r : Room) (l : List Triple) (w : Breadth) → Does ps r l (flat_b w) (things (breadth_items w)) r (onto_b w l)
   unfolding flat_b onto_b breadth_items each thing_f type_f item_faults full_for bad_size held_in last_limit other_limit next_room left_of again_of when
   breadth_does r l (bits n) = single _ _ _ refl refl
-  breadth_does r l (Breadth.typed p t) = told (is (sym (append-nil _))) (both (type_does r l t) (single _ _ _ (held_last (type_whole t) l 64 refl) refl))
+  breadth_does r l (Breadth.typed p t) = told (is (sym (append-nil _))) (both (type_does r l t) (single _ _ _ (held_last (type_whole t) l 64) refl))
 
   amount_does : (r : Room) (l : List Triple) (a : Amount) → Does ps r l (flat_a a) (things (amount_items a)) r (onto_a a l)
   unfolding flat_a onto_a amount_items each thing_f item_faults full_for bad_size held_in last_limit other_limit next_room left_of again_of when
@@ -156,9 +156,9 @@ module _ (ps : List ℕ) where
   expr_does r l (copies n e) = told (swap (things (items e)) (number_f n)) (both (expr_does r l e) (single _ _ _ (append-nil _) refl))
   expr_does r l (read n) = single _ _ _ refl refl
   expr_does r l (cell n a) = ends _ _ _ (expr_does r l a) (refl, refl)
-  expr_does r l (bit e p i) = told (is (one_type (items e) i)) (both (both (expr_does r l e) (type_does r _ i)) (single _ _ _ (held_last (type_whole i) (onto e l) 64 refl) refl))
+  expr_does r l (bit e p i) = told (is (one_type (items e) i)) (both (both (expr_does r l e) (type_does r _ i)) (single _ _ _ (held_last (type_whole i) (onto e l) 64) refl))
   expr_does r l (range e p i j) =
-      told (two_types (items e) i j) (both (both (both (expr_does r l e) (type_does r _ i)) (type_does r _ j)) (single _ _ _ (held_both (type_whole i) (onto e l) (type_whole j) 64 64 refl refl) refl))
+      told (two_types (items e) i j) (both (both (both (expr_does r l e) (type_does r _ i)) (type_does r _ j)) (single _ _ _ (held_both (type_whole i) (onto e l) (type_whole j) 64 64) refl))
   expr_does r l (inside p e) = ends _ _ _ (expr_does r l e) (refl, refl)
   expr_does r l (joined p e) = ends _ _ _ (expr_does r l e) (refl, refl)
   expr_does r l (beside a b) = ends _ _ _ (join (items a) (items b) (expr_does r l a) (expr_does r (onto a l) b)) (refl, refl)

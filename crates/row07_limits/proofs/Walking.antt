@@ -9,7 +9,7 @@ use Rattle.language.specs.Text.{earliest}
 use Rattle.language.specs.Names.{when}
 use Rattle.words.specs.Found.{place_told}
 use Rattle.words.specs.Found.{Place}
-use Rattle.std.specs.Prelude.{None}
+use Rattle.std.specs.Prelude.{Option as Optional, None}
 use Rattle.std.specs.Bool.{then_some}
 use Rattle.tape.specs.Walk.{op_at, place_at, value_at}
 use Rattle.row07_limits.specs.declared.Room.{Room}
@@ -49,12 +49,12 @@ told_when false p = refl
 module _ (ps : List ℕ) (r : Room) (t : List ℕ) (i : ℕ) where
   pub item_told : {b c : Bool} {o p : Place} {s : ℕ × ℕ} → b ≡ full_for r (op_at t i) (value_at t i) → o ≡ then_some b (place_at t i)
       → Sized t i (place_at t i) s → c ≡ bad_size r.cells (op_at t i) s.1 → p ≡ then_some c s.0
-      → {l m : ℕ} → l ≡ last_limit (op_at t i) (value_at t i) → m ≡ other_limit (op_at t i) (value_at t i) → {h : Place} → h ≡ place_told (earliest (held_in ps (before t i) l m))
+      → {l m : Optional ℕ} → l ≡ last_limit (op_at t i) (value_at t i) → m ≡ other_limit (op_at t i) (value_at t i) → {h : Place} → h ≡ place_told (earliest (held_in ps (before t i) l m))
       → {x y : Place} → x ≡ both_of p h → y ≡ both_of o x → y ≡ place_told (earliest (faults_of ps r t i))
   unfolding item_faults
   item_told {b} {c} {s = s} e1 e2 e3 e4 e5 e6 e7 e8 e9 e10 =
       e10 ∙ ap₂ both_of (e2 ∙ told_when b _ ∙ ap (λ (b : Bool). place_told (earliest (when b (place_at t i)))) e1)
-      (e9 ∙ ap₂ both_of (e5 ∙ told_when c _ ∙ ap₂ (λ (c : Bool) (q : ℕ). place_told (earliest (when c q))) (e4 ∙ ap (λ (s : ℕ × ℕ). bad_size r.cells (op_at t i) s.1) e3) (ap (λ (s : ℕ × ℕ). s.0) e3)) (e8 ∙ ap₂ (λ (l m : ℕ). place_told (earliest (held_in ps (before t i) l m))) e6 e7) ∙ both_told _ _)
+      (e9 ∙ ap₂ both_of (e5 ∙ told_when c _ ∙ ap₂ (λ (c : Bool) (q : ℕ). place_told (earliest (when c q))) (e4 ∙ ap (λ (s : ℕ × ℕ). bad_size r.cells (op_at t i) s.1) e3) (ap (λ (s : ℕ × ℕ). s.0) e3)) (e8 ∙ ap₂ (λ (l m : Optional ℕ). place_told (earliest (held_in ps (before t i) l m))) e6 e7) ∙ both_told _ _)
       ∙ both_told _ _
 
 -- ---- the walk

@@ -1,5 +1,5 @@
 -- Row 7 as a walk over the items of a tape: the room that is left, and the faults of each item by the items before it. Assumes nothing: these are definitions.
-use Rattle.std.specs.Prelude.{Bool, true, false, List, [], ◌∷◌, ◌++◌, ℕ, zero, suc, ◌-◌, ◌%◌, eqb, ltb}
+use Rattle.std.specs.Prelude.{Bool, true, false, List, [], ◌∷◌, ◌++◌, ℕ, zero, suc, ◌-◌, ◌%◌, eqb, ltb, Option as Optional, Some, None}
 use Rattle.language.specs.Limits.{limits}
 use Rattle.language.specs.Names.{when}
 use Rattle.tape.specs.Walk.{op_at, place_at, value_at}
@@ -10,26 +10,26 @@ use Rattle.part_lengths.specs.Parts.{Triple, before, held_in}
 -- ---- what an item has by its operation
 
 -- the limit of a type's words, where there is a type
-unfoldable pub in_type : Bool → ℕ
-in_type true = limits.typeWords
-in_type false = 0
+unfoldable pub in_type : Bool → Optional ℕ
+in_type true = Some limits.typeWords
+in_type false = None
 
--- the limit of the words of the part before it, and of the one before that; 0 where it holds none
-unfoldable pub last_limit : ℕ → ℕ → ℕ
+-- the limit of the words of the part before it, and of the one before that, where it holds one
+unfoldable pub last_limit : ℕ → ℕ → Optional ℕ
 last_limit o v =
     elim (eqb o TYPED) [
-      | true ↦ limits.typeWords
+      | true ↦ Some limits.typeWords
       | false ↦ elim (eqb o BIT) [
-        | true ↦ limits.typeWords
+        | true ↦ Some limits.typeWords
         | false ↦ elim (eqb o RANGE) [
-          | true ↦ limits.typeWords
+          | true ↦ Some limits.typeWords
           | false ↦ elim (eqb o ASSIGN) [
-            | true ↦ limits.expressionWords
+            | true ↦ Some limits.expressionWords
             | false ↦ elim (eqb o WRITE) [
-              | true ↦ limits.expressionWords
+              | true ↦ Some limits.expressionWords
               | false ↦ elim (eqb o VAL) [
-                | true ↦ limits.expressionWords
-                | false ↦ elim (eqb o DECLARED) [ true ↦ in_type (eqb (v % 2) 1) | false ↦ elim (eqb o MEMORY) [ true ↦ in_type (eqb v 1) | false ↦ 0 ] ]
+                | true ↦ Some limits.expressionWords
+                | false ↦ elim (eqb o DECLARED) [ true ↦ in_type (eqb (v % 2) 1) | false ↦ elim (eqb o MEMORY) [ true ↦ in_type (eqb v 1) | false ↦ None ] ]
               ]
             ]
           ]
@@ -37,8 +37,8 @@ last_limit o v =
       ]
     ]
 
-unfoldable pub other_limit : ℕ → ℕ → ℕ
-other_limit o v = elim (eqb o RANGE) [ true ↦ limits.typeWords | false ↦ elim (eqb o WRITE) [ true ↦ limits.expressionWords | false ↦ elim (eqb o VAL) [ true ↦ in_type (eqb v 1) | false ↦ 0 ] ] ]
+unfoldable pub other_limit : ℕ → ℕ → Optional ℕ
+other_limit o v = elim (eqb o RANGE) [ true ↦ Some limits.typeWords | false ↦ elim (eqb o WRITE) [ true ↦ Some limits.expressionWords | false ↦ elim (eqb o VAL) [ true ↦ in_type (eqb v 1) | false ↦ None ] ] ]
 
 -- the size before an item, and its place: 1, and another place, where there is none
 unfoldable pub size_in : List Triple → ℕ

@@ -4,7 +4,7 @@ ghost use Rattle.std.specs.Option.{unwrap_or};
 ghost use Rattle.language.specs.Text.{earliest};
 ghost use Rattle.words.specs.Found.{place_told};
 ghost use Rattle.part_lengths.specs.Parts.{before, places_in};
-ghost use Rattle.row07_limits.specs.Walk.{left_of, again_of, size_in, size_place_in, full_for, bad_size, in_type, last_limit, other_limit, next_room, faults_of};
+ghost use Rattle.row07_limits.specs.Walk.{left_of, again_of, size_in, size_place_in, full_for, bad_size, last_limit, other_limit, next_room, faults_of};
 
 use crate::Room;
 use part_lengths::{both, held};
@@ -12,7 +12,7 @@ use tape::{
     ASSIGN, BIT, COPIES, DECLARED, MEMORY, OR, RANGE, RULE, RULED, SIGNED, SIZE, TYPED, VAL, WRITE,
 };
 
-// The operations of the items that have a limit, or hold what has one.
+// The most words of a type, and of a whole expression.
 const IN_TYPE: u32 = language::Type::WORDS;
 
 const IN_WHOLE: u32 = language::Expression::WORDS;
@@ -85,38 +85,30 @@ fn bad_size(cells: u32, op: u32, size: u32) -> bool
     op == MEMORY && (size == 0 || language::Plan::SIZE < size || cells < size)
 }
 
-// The limit of a type's words, where there is a type.
-#[tactic(auto, unfolding(crate::specs::Walk::in_type))]
-fn in_type(typed: bool) -> u32
-    ensures { result ≡ in_type typed }
-{
-    if typed { IN_TYPE } else { 0 }
-}
-
-// The limit of the words of the part before an item, and of the one before that; 0 where it holds none.
-#[tactic(auto, unfolding(crate::specs::Walk::last_limit))]
-fn last_limit(op: u32, value: u32) -> u32
+// The limit of the words of the part before an item, and of the one before that, where it holds one.
+#[tactic(auto, unfolding(crate::specs::Walk::last_limit, crate::specs::Walk::in_type))]
+fn last_limit(op: u32, value: u32) -> Option<u32>
     ensures { result ≡ last_limit op value }
 {
     match op {
-        TYPED | BIT | RANGE => IN_TYPE,
-        ASSIGN | WRITE | VAL => IN_WHOLE,
+        TYPED | BIT | RANGE => Some(IN_TYPE),
+        ASSIGN | WRITE | VAL => Some(IN_WHOLE),
         // a port's value tells besides whether it is an input
-        DECLARED => in_type(value % 2 == 1),
-        MEMORY => in_type(value == 1),
-        _ => 0,
+        DECLARED => (value % 2 == 1).then_some(IN_TYPE),
+        MEMORY => (value == 1).then_some(IN_TYPE),
+        _ => None,
     }
 }
 
-#[tactic(auto, unfolding(crate::specs::Walk::other_limit))]
-fn other_limit(op: u32, value: u32) -> u32
+#[tactic(auto, unfolding(crate::specs::Walk::other_limit, crate::specs::Walk::in_type))]
+fn other_limit(op: u32, value: u32) -> Option<u32>
     ensures { result ≡ other_limit op value }
 {
     match op {
-        RANGE => IN_TYPE,
-        WRITE => IN_WHOLE,
-        VAL => in_type(value == 1),
-        _ => 0,
+        RANGE => Some(IN_TYPE),
+        WRITE => Some(IN_WHOLE),
+        VAL => (value == 1).then_some(IN_TYPE),
+        _ => None,
     }
 }
 

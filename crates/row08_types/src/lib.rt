@@ -15,7 +15,7 @@ ghost use Rattle.row08_types.specs.Walk.{outer_of, outward_of, waiting_of, comin
 
 use tape::{Node, node_of};
 
-// The operations of the items of types.
+// The greatest number in a type.
 const LIMIT: u32 = language::Type::NUMBER;
 
 // How many logs may stand together.
