@@ -14,7 +14,6 @@ use Rattle.row09_bindings.proofs.Indices.{index_among}
 use Rattle.std.specs.Prelude.{Option as Optional, Some, None}
 use Rattle.sized_constants.specs.Constant.{amount_of}
 use Rattle.tape.specs.Tape as Tape
-use Rattle.exact.specs.declared.Position.TheVariants.{At, Outside}
 use Rattle.exact.specs.Room.{positioned}
 use Rattle.type_value.specs.Walk.{value_of}
 use Rattle.settled.specs.Form.{BITS, BIG, AMOUNT, START, RANGE, READ, HELD, CELL, WRITE, ASSIGN, TYPED, six, OUTSIDE}
@@ -49,12 +48,12 @@ small_amount n h = rw (lt-ltb n (2 ^ 64) h, amount_of)
 
 -- ---- a position
 
-pub position_at_law : (o : Option ℕ) (n : ℕ) → At n ≡ positioned o → n ≡ placed o
+pub position_at_law : (o : Option ℕ) (n : ℕ) → Some n ≡ positioned o → n ≡ placed o
 unfolding placed
 position_at_law none n e = absurd (let z : ◌≡◌ {A = ℕ} 0 1 = cc in omega arith)
 position_at_law (some k) n e = cc
 
-pub position_outside : (o : Option ℕ) → Outside ≡ positioned o → OUTSIDE ≡ operand (placed o)
+pub position_outside : (o : Option ℕ) → None ≡ positioned o → OUTSIDE ≡ operand (placed o)
 unfolding placed operand
 position_outside none e = refl
 position_outside (some k) e = absurd (let z : ◌≡◌ {A = ℕ} 0 1 = cc in omega arith)

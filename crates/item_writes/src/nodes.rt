@@ -10,7 +10,6 @@ ghost use Rattle.item_writes.specs.Walk.{leaf as leaf_of, without as without_of,
 ghost use Rattle.item_writes.specs.Tables.{Ordered, waits_in, begins_at, Left, Grew, Grown};
 
 use crate::{Counts, Grows, Waits};
-use exact::Position;
 use looked_up::{narrow, numbered, value};
 use tape::{CEIL, ENTRY, ENVIRONMENT, FLOOR, LOG, MINUS, NUMBER, PLUS, PORT, SIGNED, wide};
 
@@ -129,7 +128,7 @@ pub fn position(code: &[u32], starts: &[usize], widths: &[u32], w: Waits) -> u32
 {
     let from = begins(starts, w, w.types.saturating_sub(1));
     match type_value::position_at(code, from, w.nodes, widths) {
-        Position::At(p) => narrow(p as usize),
-        Position::Outside => settled::OUTSIDE,
+        Some(p) => narrow(p as usize),
+        None => settled::OUTSIDE,
     }
 }
