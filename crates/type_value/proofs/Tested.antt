@@ -1,46 +1,27 @@
 -- The tests say what they test, and a code that is safe to walk has the value that its walk leaves. Assumes nothing.
-use mathlib.Core.Path.{◌≡◌, refl, sym, ap, ap₂, ◌∙◌, subst}
+use mathlib.Core.Path.{◌≡◌, refl, sym, ap, ◌∙◌, subst}
 use mathlib.Core.Bool.{Bool, true, false, ◌&&◌, ◌||◌}
 use mathlib.Core.List.{List, [], ◌∷◌}
-use Prim.Native.Nat.{ℕ, zero, suc, ◌+◌, ◌-◌, ◌/◌, ◌%◌, ◌≤◌, ◌<◌}
+use Prim.Native.Nat.{ℕ, zero, suc, ◌+◌, ◌/◌, ◌%◌, ◌≤◌, ◌<◌}
 use native.Mathlib.Omega.{arith}
 use lib.Dec.{eqb, ltb, lit≤, lit<}
 use lib.ListN.{length, get_or}
-use borrow.Author.Tests.{lt-ltb, le-ltb, ltb-true, ltb-false, eqb-false, ne_eqb}
+use borrow.Author.Tests.{lt-ltb, le-ltb, ltb-true, ltb-false, eqb-false, eq-eqb, ne_eqb}
 use Rattle.language.specs.declared.Exact.{Exact}
 use Rattle.language.specs.Types.{whole_of}
 use Rattle.type_value.specs.Terms.{Term, code, value_at, TypeOf, Small}
-use Rattle.type_value.specs.Walk.{part, TermStands, Turned, turn, walk, Ready, leaf, unary, binary, last_has_space, last_two_have_room, is_ready, alone, value_from, value_of, exact_at, waiting}
+use Rattle.type_value.specs.Walk.{part, TermStands, unary_kind, binary_kind, leaf_of, unary_of, binary_of, on_last, on_last_two, waiting, Pushed, TurnedLast, TurnedLastTwo, Turned, turn, walk, Ready, leaf, unary, binary, last_has_space, last_two_have_room, is_ready, alone, value_from, value_of}
+use Rattle.std.specs.Prelude.{Option, Some, None}
+use Rattle.type_value.specs.declared.OnOne.{OnOne}
+use Rattle.type_value.specs.declared.OnOne.TheVariants.{Log, Floor, Ceil}
+use Rattle.type_value.specs.declared.OnTwo.{OnTwo}
+use Rattle.type_value.specs.declared.OnTwo.TheVariants.{Plus, Minus, Greater}
+use Rattle.type_value.proofs.Cells.{turn_leaf, turn_one, turn_two}
 use Rattle.exact_room.specs.Tests.{has_space, has_room}
 use Rattle.exact.specs.Room.{Space}
 use Rattle.type_value.proofs.Bounds.{space}
 use Rattle.type_value.proofs.Walking.{part_more, part_none, walk_whole, Safe, safe_whole}
 use Rattle.exact_room.proofs.Fitting.{both, and, space_of_test, test_of_space, room_of_test, test_of_room}
-
-pub none_waits : (l : List ℕ) (n : ℕ) → n ≡ 0 → last_has_space (waiting l n) ≡ false
-unfolding last_has_space waiting
-none_waits l zero h = refl
-none_waits l (suc n) h = absurd (omega (arith, h))
-
-pub one_waits : (l : List ℕ) (n : ℕ) → 0 < n → last_has_space (waiting l n) ≡ has_space (exact_at l (n - 1))
-unfolding last_has_space waiting
-one_waits l zero h = absurd (omega (arith, h))
-one_waits l (suc n) h = let e : suc n - 1 ≡ n = omega arith in ap (λ (k : ℕ). has_space (exact_at l k)) (sym e)
-
-pub few_wait : (l : List ℕ) (n : ℕ) → n < 2 → last_two_have_room (waiting l n) ≡ false
-unfolding last_two_have_room waiting
-few_wait l zero h = refl
-few_wait l (suc zero) h = refl
-few_wait l (suc (suc n)) h = absurd (omega (arith, h))
-
-pub two_wait : (l : List ℕ) (n : ℕ) → 1 < n → last_two_have_room (waiting l n) ≡ has_room (exact_at l (n - 2)) (exact_at l (n - 1))
-unfolding last_two_have_room waiting
-two_wait l zero h = absurd (omega (arith, h))
-two_wait l (suc zero) h = absurd (omega (arith, h))
-two_wait l (suc (suc n)) h =
-    let e : suc (suc n) - 2 ≡ n = omega arith in
-    let f : suc (suc n) - 1 ≡ suc n = omega arith in
-    ap₂ (λ (j k : ℕ). has_room (exact_at l j) (exact_at l k)) (sym e) (sym f)
 
 -- ---- a node that is tested ready is ready
 
@@ -93,6 +74,80 @@ test_of_ready ws k st (leaf h p s) = test_leaf ws k st h ∙ and _ _ (lt-ltb (le
 test_of_ready ws k st (unary x r e g h s) = test_unary ws k st g h ∙ ap last_has_space e ∙ test_of_space x s
 test_of_ready ws k st (binary x y r e g m) = test_binary ws k st g ∙ ap last_two_have_room e ∙ test_of_room x y m
 
+-- ---- a node's turn, by what was popped and pushed
+
+and_false : (b : Bool) → b && false ≡ false
+and_false true = refl
+and_false false = refl
+
+module _ (f : Exact → Exact) (st r r' : List Exact) (x y : Exact) (e : st ≡ x ∷ r) where
+  pub one_wide : has_space x ≡ false → last_has_space st ≡ false
+  unfolding last_has_space
+  one_wide h = rw e h
+
+  pub one_done : has_space x ≡ true → length st ≤ 64 → y ≡ f x → (q : Option (Unit {0})) → Pushed r y r' q → TurnedLast f st r' q
+  unfolding last_has_space on_last
+  one_done h few g None p = absurd (let z : length st ≡ suc (length r) = ap length e in omega arith)
+  one_done h few g (Some u) p = (rw e h, rw e (p.1 ∙ ap (λ (v : Exact). v ∷ r) g))
+
+pub one_none : (st : List Exact) → st ≡ [] → last_has_space st ≡ false
+unfolding last_has_space
+one_none st e = rw e
+
+pub two_none : (st : List Exact) → st ≡ [] → last_two_have_room st ≡ false
+unfolding last_two_have_room
+two_none st e = rw e
+
+pub two_one : (st r : List Exact) (y : Exact) → st ≡ y ∷ r → r ≡ [] → last_two_have_room st ≡ false
+unfolding last_two_have_room
+two_one st r y e g = rw (e, g)
+
+module _ (f : Exact → Exact → Exact) (st s r r' : List Exact) (x y v : Exact) (e : st ≡ y ∷ s) (g : s ≡ x ∷ r) where
+  pub two_wide : has_room x y ≡ false → last_two_have_room st ≡ false
+  unfolding last_two_have_room
+  two_wide h = rw (e, g) h
+
+  pub two_done : has_room x y ≡ true → length st ≤ 64 → v ≡ f x y → (q : Option (Unit {0})) → Pushed r v r' q → TurnedLastTwo f st r' q
+  unfolding last_two_have_room on_last_two
+  two_done h few j None p = absurd (let z : length st ≡ suc (suc (length r)) = ap length (e ∙ ap (λ (l : List Exact). y ∷ l) g) in omega arith)
+  two_done h few j (Some u) p = (rw (e, g) h, rw (e, g) (p.1 ∙ ap (λ (w : Exact). w ∷ r) j))
+
+pub one_kind : (op : OnOne) → (2 ≤ unary_kind op) × (unary_kind op < 5)
+one_kind Log = (lit≤ tt, lit< tt)
+one_kind Floor = (lit≤ tt, lit< tt)
+one_kind Ceil = (lit≤ tt, lit< tt)
+
+pub two_kind : (op : OnTwo) → 5 ≤ binary_kind op
+two_kind Plus = lit≤ tt
+two_kind Minus = lit≤ tt
+two_kind Greater = lit≤ tt
+
+pub number_leaf : (ws : List ℕ) (k : ℕ) → k % 8 ≡ 0 → leaf_of ws k ≡ whole_of (k / 8) 0
+unfolding leaf_of
+number_leaf ws k e = rw (eq-eqb (k % 8) 0 e, leaf_of)
+
+pub port_leaf : (ws : List ℕ) (k i : ℕ) → k % 8 ≡ 1 → k / 8 ≡ i → leaf_of ws k ≡ whole_of (get_or ws i 0) 0
+unfolding leaf_of
+port_leaf ws k i e g = rw (ne_eqb (k % 8) 0 (λ z. omega (arith, e, z)), leaf_of, g)
+
+module _ (ws : List ℕ) (k : ℕ) (st r : List Exact) where
+  pub leaf_out : k % 8 ≡ 1 → length ws ≤ k / 8 → is_ready ws k st ≡ false
+  leaf_out e h = test_leaf ws k st (omega arith) ∙ rw (ne_eqb (k % 8) 0 (λ z. omega (arith, e, z)), le-ltb (k / 8) (length ws) h) (and_false _)
+
+  pub leaf_done : k % 8 < 2 → (k % 8 ≡ 1 → k / 8 < length ws) → (v : Exact) → v ≡ leaf_of ws k → (q : Option (Unit {0})) → Pushed st v r q → Turned ws k st r q
+  leaf_done h p v e None o = test_leaf ws k st h ∙ rw (le-ltb (length st) 64 (omega arith))
+  leaf_done h p v e (Some u) o = (test_of_ready ws k st (leaf h p o.0), o.1 ∙ ap (λ (x : Exact). x ∷ st) e ∙ sym (turn_leaf ws k st h))
+
+  pub one_turned : (n : ℕ) → k % 8 ≡ n → 2 ≤ n → n < 5 → (q : Option (Unit {0})) → TurnedLast (unary_of n) st r q → Turned ws k st r q
+  one_turned n e g h None o = test_unary ws k st (omega arith) (omega arith) ∙ o
+  one_turned n e g h (Some u) o =
+      (test_unary ws k st (omega arith) (omega arith) ∙ o.0, o.1 ∙ ap (λ (j : ℕ). on_last (unary_of j) st) (sym e) ∙ sym (turn_one ws k st (omega arith) (omega arith)))
+
+  pub two_turned : (n : ℕ) → k % 8 ≡ n → 5 ≤ n → (q : Option (Unit {0})) → TurnedLastTwo (binary_of n) st r q → Turned ws k st r q
+  two_turned n e g None o = test_binary ws k st (omega arith) ∙ o
+  two_turned n e g (Some u) o =
+      (test_binary ws k st (omega arith) ∙ o.0, o.1 ∙ ap (λ (j : ℕ). on_last_two (binary_of j) st) (sym e) ∙ sym (turn_two ws k st (omega arith)))
+
 -- ---- the value of any code
 
 pub zero_space : Space (whole_of 0 0)
@@ -112,18 +167,18 @@ pub alone_is : (x : Exact) → Space x → alone (x ∷ []) ≡ x
 unfolding alone
 alone_is x s = rw (test_of_space x s, alone)
 
-pub alone_not_one : (l : List ℕ) (n : ℕ) → (n ≡ 1 → ⊥) → alone (waiting l n) ≡ whole_of 0 0
+pub alone_not_one : (l : List Exact) (n : ℕ) → (n ≡ 1 → ⊥) → alone (waiting l n) ≡ whole_of 0 0
 unfolding alone waiting
 alone_not_one l zero h = refl
 alone_not_one l (suc zero) h = absurd (h refl)
 alone_not_one l (suc (suc n)) h = refl
 
-module _ (l : List ℕ) (n : ℕ) (e : n ≡ 1) where
-  pub alone_one : has_space (exact_at l 0) ≡ true → alone (waiting l n) ≡ exact_at l 0
+module _ (l : List Exact) (n : ℕ) (e : n ≡ 1) where
+  pub alone_one : has_space (get_or l 0 (record { up = 0; down = 0; a = 0; b = 0 })) ≡ true → alone (waiting l n) ≡ get_or l 0 (record { up = 0; down = 0; a = 0; b = 0 })
   unfolding alone waiting
-  alone_one h = ap (λ (k : ℕ). alone (waiting l k)) e ∙ alone_is (exact_at l 0) (space_of_test (exact_at l 0) h)
+  alone_one h = ap (λ (k : ℕ). alone (waiting l k)) e ∙ alone_is (get_or l 0 (record { up = 0; down = 0; a = 0; b = 0 })) (space_of_test (get_or l 0 (record { up = 0; down = 0; a = 0; b = 0 })) h)
 
-  pub alone_wide : has_space (exact_at l 0) ≡ false → alone (waiting l n) ≡ whole_of 0 0
+  pub alone_wide : has_space (get_or l 0 (record { up = 0; down = 0; a = 0; b = 0 })) ≡ false → alone (waiting l n) ≡ whole_of 0 0
   unfolding alone waiting
   alone_wide h = ap (λ (k : ℕ). alone (waiting l k)) e ∙ rw (h, alone)
 
@@ -143,35 +198,31 @@ value_of_safe ws (k ∷ ks) st x f e s = goes_on_law ws k ks st (test_of_ready w
 
 -- ---- midway: what is left of the code leads from the values that wait to the value of the whole
 
-pub record Midway (ws l : List ℕ) (from end i : ℕ) (cells : List ℕ) (n : ℕ) : Type 0 where
+pub record Midway (ws l : List ℕ) (from end i : ℕ) (st : List Exact) : Type 0 where
   pub inside : end ≤ length l
-  pub leads : value_from ws (part l i end) (waiting cells n) ≡ value_of ws (part l from end)
-  pub few : n ≤ 64
-  pub long : length cells ≡ 256
+  pub leads : value_from ws (part l i end) st ≡ value_of ws (part l from end)
 
 module _ (ws l : List ℕ) (from end : ℕ) where
-  pub begins : end ≤ length l → (cells : List ℕ) → length cells ≡ 256 → Midway ws l from end from cells 0
+  pub begins : (cells : List Exact) → end ≤ length l → Midway ws l from end from (waiting cells 0)
   unfolding waiting
-  begins h cells e = record { inside = h; leads = refl; few = lit≤ tt; long = e }
+  begins cells h = record { inside = h; leads = refl }
 
-  module _ (i : ℕ) (cells : List ℕ) (n : ℕ) (m : Midway ws l from end i cells n) where
-    one_more : i < end → value_from ws (get_or l i 0 ∷ part l (i + 1) end) (waiting cells n) ≡ value_of ws (part l from end)
-    one_more h = ap (λ (ks : List ℕ). value_from ws ks (waiting cells n)) (sym (part_more l i end h m.inside)) ∙ m.leads
+  module _ (i : ℕ) (st : List Exact) (m : Midway ws l from end i st) where
+    one_more : i < end → value_from ws (get_or l i 0 ∷ part l (i + 1) end) st ≡ value_of ws (part l from end)
+    one_more h = ap (λ (ks : List ℕ). value_from ws ks st) (sym (part_more l i end h m.inside)) ∙ m.leads
 
-    pub onward : i < end → is_ready ws (get_or l i 0) (waiting cells n) ≡ true → (next : List ℕ) (r : ℕ) → Turned ws (get_or l i 0) cells n next r → Midway ws l from end (i + 1) next r
-    onward h e next r t = record {
+    pub onward : i < end → is_ready ws (get_or l i 0) st ≡ true → (r : List Exact) → r ≡ turn ws (get_or l i 0) st → Midway ws l from end (i + 1) r
+    onward h e r t = record {
       inside = m.inside;
-      leads = ap (value_from ws (part l (i + 1) end)) t.now_wait ∙ sym (goes_on_law ws (get_or l i 0) (part l (i + 1) end) (waiting cells n) e) ∙ one_more h;
-      few = t.few;
-      long = t.long;
+      leads = ap (value_from ws (part l (i + 1) end)) t ∙ sym (goes_on_law ws (get_or l i 0) (part l (i + 1) end) st e) ∙ one_more h;
     }
 
-    pub stopped : i < end → is_ready ws (get_or l i 0) (waiting cells n) ≡ false → value_of ws (part l from end) ≡ whole_of 0 0
-    stopped h e = sym (one_more h) ∙ stops ws (get_or l i 0) (part l (i + 1) end) (waiting cells n) e
+    pub stopped : i < end → is_ready ws (get_or l i 0) st ≡ false → value_of ws (part l from end) ≡ whole_of 0 0
+    stopped h e = sym (one_more h) ∙ stops ws (get_or l i 0) (part l (i + 1) end) st e
 
-    pub ended : end ≤ i → value_of ws (part l from end) ≡ alone (waiting cells n)
+    pub ended : end ≤ i → value_of ws (part l from end) ≡ alone st
     unfolding value_from
-    ended h = sym m.leads ∙ ap (λ (ks : List ℕ). value_from ws ks (waiting cells n)) (part_none l i end h)
+    ended h = sym m.leads ∙ ap (λ (ks : List ℕ). value_from ws ks st) (part_none l i end h)
 
   -- the code of a type that keeps the rules has the type's value
   pub typed : Small ws → (t : Term) → TermStands t l from end → TypeOf (length ws) t → value_of ws (part l from end) ≡ value_at ws t

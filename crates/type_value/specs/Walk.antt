@@ -1,7 +1,13 @@
--- A code walked node by node with the values that wait, and these in cells of four numbers. Assumes nothing: these are definitions.
-use Rattle.std.specs.Prelude.{◌≡◌, Bool, true, false, ◌&&◌, ◌||◌, List, [], ◌∷◌, ℕ, zero, suc, ◌+◌, ◌-◌, ◌*◌, ◌/◌, ◌%◌, ◌≤◌, ◌<◌, eqb, ltb, length, get_or, take, drop, set}
+-- A code walked node by node with the values that wait, and these as the code has them. Assumes nothing: these are definitions.
+use Rattle.std.specs.Prelude.{◌≡◌, Bool, true, false, ◌&&◌, ◌||◌, List, [], ◌∷◌, ℕ, zero, suc, ◌-◌, ◌/◌, ◌%◌, ◌≤◌, ◌<◌, eqb, ltb, length, get_or, take, drop, Option, Some, None}
 use Rattle.language.specs.Limits.{limits}
 use Rattle.language.specs.declared.Exact.{Exact}
+use Rattle.type_value.specs.declared.OnOne.{OnOne}
+use Rattle.type_value.specs.declared.OnOne.TheVariants.{Log, Floor, Ceil}
+use Rattle.type_value.specs.declared.OnTwo.{OnTwo}
+use Rattle.type_value.specs.declared.OnTwo.TheVariants.{Plus, Minus, Greater}
+use Rattle.type_value.specs.declared.Node.{Node}
+use Rattle.type_value.specs.declared.Node.TheVariants.{Number, Port, One, Two}
 use Rattle.exact.specs.Room.{Space, Room}
 use Rattle.language.specs.Types.{whole_of, log_of, plus_of, minus_of, greater_of, floor_of, ceil_of, width_of}
 use Rattle.type_value.specs.Terms.{Term, code, TypeOf, Small}
@@ -102,23 +108,47 @@ value_from ws (k ∷ ks) st = elim (is_ready ws k st) [ true ↦ value_from ws k
 abbrev pub value_of : List ℕ → List ℕ → Exact
 value_of ws ks = value_from ws ks []
 
--- ---- the values in cells, four to a value
+-- ---- the nodes and the values as the code has them
 
--- the k-th value in the cells
-abbrev pub exact_at : List ℕ → ℕ → Exact
-exact_at l k = record { up = get_or l (k * 4) 0; down = get_or l (k * 4 + 1) 0; a = get_or l (k * 4 + 2) 0; b = get_or l (k * 4 + 3) 0 }
+abbrev pub unary_kind : OnOne → ℕ
+unary_kind Log = 2
+unary_kind Floor = 3
+unary_kind Ceil = 4
 
--- the cells with a value put at the k-th place
-abbrev pub stored : List ℕ → ℕ → Exact → List ℕ
-stored l k x = set (set (set (set l (k * 4) x.up) (k * 4 + 1) x.down) (k * 4 + 2) x.a) (k * 4 + 3) x.b
+abbrev pub binary_kind : OnTwo → ℕ
+binary_kind Plus = 5
+binary_kind Minus = 6
+binary_kind Greater = 7
+
+-- the node that a word is
+abbrev pub Means : Node → ℕ → Type 0
+Means (Number n) k = (k % 8 ≡ 0) × (k / 8 ≡ n)
+Means (Port i) k = (k % 8 ≡ 1) × (k / 8 ≡ i)
+Means (One op) k = k % 8 ≡ unary_kind op
+Means (Two op) k = k % 8 ≡ binary_kind op
 
 -- the first n values, the last one first
-unfoldable pub waiting : List ℕ → ℕ → List Exact
+unfoldable pub waiting : List Exact → ℕ → List Exact
 waiting l zero = []
-waiting l (suc n) = exact_at l n ∷ waiting l n
+waiting l (suc n) = get_or l n (record { up = 0; down = 0; a = 0; b = 0 }) ∷ waiting l n
 
--- a node's turn in cells: n values wait in l, and then r in m
-pub record Turned (ws : List ℕ) (k : ℕ) (l : List ℕ) (n : ℕ) (m : List ℕ) (r : ℕ) : Type 0 where
-  pub now_wait : waiting m r ≡ turn ws k (waiting l n)
-  pub few : r ≤ limits.typeWords
-  pub long : length m ≡ 4 * limits.typeWords
+-- what waits before and after, and whether it was done
+abbrev pub Pushed : List Exact → Exact → List Exact → Option (Unit {0}) → Type 0
+Pushed st x r None = length st ≡ limits.typeWords
+Pushed st x r (Some u) = (length st < limits.typeWords) × (r ≡ x ∷ st)
+
+abbrev pub Popped : List Exact → List Exact → Option Exact → Type 0
+Popped st r None = st ≡ []
+Popped st r (Some x) = st ≡ x ∷ r
+
+abbrev pub TurnedLast : (Exact → Exact) → List Exact → List Exact → Option (Unit {0}) → Type 0
+TurnedLast f st r None = last_has_space st ≡ false
+TurnedLast f st r (Some u) = (last_has_space st ≡ true) × (r ≡ on_last f st)
+
+abbrev pub TurnedLastTwo : (Exact → Exact → Exact) → List Exact → List Exact → Option (Unit {0}) → Type 0
+TurnedLastTwo f st r None = last_two_have_room st ≡ false
+TurnedLastTwo f st r (Some u) = (last_two_have_room st ≡ true) × (r ≡ on_last_two f st)
+
+abbrev pub Turned : List ℕ → ℕ → List Exact → List Exact → Option (Unit {0}) → Type 0
+Turned ws k st r None = is_ready ws k st ≡ false
+Turned ws k st r (Some u) = (is_ready ws k st ≡ true) × (r ≡ turn ws k st)

@@ -5,154 +5,163 @@
 
 ghost use Rattle.std.specs.Prelude.{◌≡◌, ◌+◌, ◌*◌, ◌/◌, ◌%◌, ◌≤◌, ◌<◌, length};
 ghost use Rattle.language.specs.Limits.{limits};
-ghost use Rattle.language.specs.Types.{width_of, position_of};
+ghost use Rattle.language.specs.Types.{whole_of, width_of, position_of};
 ghost use Rattle.exact.specs.Room.{Space, Room, positioned};
 ghost use Rattle.type_value.specs.Terms.{value_at};
-ghost use Rattle.type_value.specs.Walk.{part, EachType, leaf_of, unary_of, binary_of, Ready, last_has_space, last_two_have_room, is_ready, alone, value_of, exact_at, stored, waiting, Turned};
+ghost use Rattle.type_value.specs.Walk.{part, EachType, leaf_of, unary_of, binary_of, unary_kind, binary_kind, Means, is_ready, alone, value_of, waiting, Pushed, Popped, TurnedLast, TurnedLastTwo, Turned};
 ghost use Rattle.exact_room.specs.Tests.{fits, has_space, sums_fit, products_fit, has_room};
 
 use exact::{ceil, floor, greater, log, minus, number, plus, position_of, width_of};
 use exact_room::{has_room, has_space};
 use language::Exact;
 
-// Four numbers for each type that waits, of which there are as many as a type has words at most.
-const CELLS: usize = 4 * language::Type::WORDS as usize;
+// As many values wait at once as a type has words at most.
+const WORDS: usize = language::Type::WORDS as usize;
 
-// A node with no operand: a number, or the width of an unknown.
-fn leaf(node: u32, ws: &[u32]) -> Exact
-    requires node_in_bounds { node % 8 ≡ 1 → node / 8 < length ws.now }
-    requires node_bound { node % 8 < 2 }
-    ensures { result ≡ leaf_of ws.now node }
+#[derive(Clone, Copy)]
+enum OnOne {
+    Log,
+    Floor,
+    Ceil,
+}
+
+#[derive(Clone, Copy)]
+enum OnTwo {
+    Plus,
+    Minus,
+    Greater,
+}
+
+// A node of a type: a number, the unknown with an index, or an operation on the values before it.
+#[derive(Clone, Copy)]
+enum Node {
+    Number(u32),
+    Port(usize),
+    One(OnOne),
+    Two(OnTwo),
+}
+
+fn decoded(word: u32) -> Node
+    ensures { Means result word }
 {
-    match node % 8 {
-        0 => number((node / 8) as u64),
-        _ => {
-            let i = (node / 8) as usize;
-            number(ws[i] as u64)
-        }
+    let argument = word / 8;
+    match word % 8 {
+        0 => Node::Number(argument),
+        1 => Node::Port(argument as usize),
+        2 => Node::One(OnOne::Log),
+        3 => Node::One(OnOne::Floor),
+        4 => Node::One(OnOne::Ceil),
+        5 => Node::Two(OnTwo::Plus),
+        6 => Node::Two(OnTwo::Minus),
+        _ => Node::Two(OnTwo::Greater),
     }
 }
 
-fn unary(op: u32, x: Exact) -> Exact
+#[tactic(auto, unfolding(crate::specs::Walk::unary_of))]
+fn unary(op: OnOne, x: Exact) -> Exact
     requires { Space x }
-    ensures { result ≡ unary_of op x }
+    ensures { result ≡ unary_of (unary_kind op) x }
 {
     match op {
-        2 => log(width_of(x)),
-        3 => floor(x),
-        _ => ceil(x),
+        OnOne::Log => log(width_of(x)),
+        OnOne::Floor => floor(x),
+        OnOne::Ceil => ceil(x),
     }
 }
 
-fn binary(op: u32, x: Exact, y: Exact) -> Exact
+#[tactic(auto, unfolding(crate::specs::Walk::binary_of))]
+fn binary(op: OnTwo, x: Exact, y: Exact) -> Exact
     requires { Room x y }
-    ensures { result ≡ binary_of op x y }
+    ensures { result ≡ binary_of (binary_kind op) x y }
 {
     match op {
-        5 => plus(x, y),
-        6 => minus(x, y),
-        _ => greater(x, y),
+        OnTwo::Plus => plus(x, y),
+        OnTwo::Minus => minus(x, y),
+        OnTwo::Greater => greater(x, y),
     }
 }
 
-fn taken(cells: &[u64; CELLS], k: usize) -> Exact
-    requires { k < limits.typeWords }
-    ensures { result ≡ exact_at cells.now k }
-{
-    Exact {
-        up: cells[k * 4],
-        down: cells[k * 4 + 1],
-        a: cells[k * 4 + 2],
-        b: cells[k * 4 + 3],
-    }
+// The values that wait for their operation: the first n.
+#[derive(Drop)]
+struct Waiting {
+    values: [Exact; WORDS],
+    n: usize,
+    ghost few: { n ≤ limits.typeWords },
 }
 
-fn put(cells: &mut [u64; CELLS], k: usize, x: Exact) -> usize
-    requires { k < limits.typeWords }
-    ensures { (result ≡ k + 1) × (cells.new ≡ stored cells.old k x) }
-{
-    cells[k * 4] = x.up;
-    cells[k * 4 + 1] = x.down;
-    cells[k * 4 + 2] = x.a;
-    cells[k * 4 + 3] = x.b;
-    k + 1
-}
-
-fn last_has_space(cells: &[u64; CELLS], n: usize) -> bool
-    requires { n ≤ limits.typeWords }
-    ensures { result ≡ last_has_space (waiting cells.now n) }
-{
-    match n {
-        0 => false,
-        _ => has_space(taken(cells, n - 1)),
-    }
-}
-
-fn last_two_have_room(cells: &[u64; CELLS], n: usize) -> bool
-    requires { n ≤ limits.typeWords }
-    ensures { result ≡ last_two_have_room (waiting cells.now n) }
-{
-    match n {
-        0 | 1 => false,
-        _ => has_room(taken(cells, n - 2), taken(cells, n - 1)),
-    }
-}
-
-// Whether a node finds what it needs among the n values that wait, and its value has a place.
-fn ready(node: u32, ws: &[u32], cells: &[u64; CELLS], n: usize) -> bool
-    requires { n ≤ limits.typeWords }
-    ensures { result ≡ is_ready ws.now node (waiting cells.now n) }
-{
-    let op = node % 8;
-    match op {
-        0 | 1 => {
-            let i = (node / 8) as usize;
-            (n < 64) & ((op == 0) | (i < ws.len()))
+impl Waiting {
+    fn push(&mut self, x: Exact) -> Option<()>
+        ensures { Pushed (waiting self.old.values self.old.n) x (waiting self.new.values self.new.n) result }
+    {
+        if self.n == WORDS {
+            return None;
         }
-        2 | 3 | 4 => last_has_space(cells, n),
-        _ => last_two_have_room(cells, n),
+        self.values[self.n] = x;
+        self.n += 1;
+        Some(())
     }
-}
 
-// One node: its operands, the last values of the n that wait, give way to its value. How many wait then.
-fn step(node: u32, ws: &[u32], cells: &mut [u64; CELLS], n: usize) -> usize
-    requires ready { Ready ws.now node (waiting cells.old n) }
-    requires n_le_type_words { (n ≤ limits.typeWords) × (length cells.old ≡ 4 * limits.typeWords) }
-    ensures { Turned ws.now node cells.old n cells.new result }
-{
-    let op = node % 8;
-    match op {
-        0 | 1 => {
-            let x = leaf(node, ws);
-            put(cells, n, x)
+    fn pop(&mut self) -> Option<Exact>
+        ensures { Popped (waiting self.old.values self.old.n) (waiting self.new.values self.new.n) result }
+    {
+        if self.n == 0 {
+            return None;
         }
-        2 | 3 | 4 => {
-            let x = taken(cells, n - 1);
-            let y = unary(op, x);
-            put(cells, n - 1, y)
+        self.n -= 1;
+        Some(self.values[self.n])
+    }
+
+    // The last value gives way to another.
+    fn on_last(&mut self, op: OnOne) -> Option<()>
+        ensures { TurnedLast (unary_of (unary_kind op)) (waiting self.old.values self.old.n) (waiting self.new.values self.new.n) result }
+    {
+        let x = self.pop()?;
+        if !has_space(x) {
+            return None;
         }
-        _ => {
-            let x = taken(cells, n - 2);
-            let y = taken(cells, n - 1);
-            let z = binary(op, x, y);
-            put(cells, n - 2, z)
+        self.push(unary(op, x))
+    }
+
+    // The last two values give way to one.
+    fn on_last_two(&mut self, op: OnTwo) -> Option<()>
+        ensures { TurnedLastTwo (binary_of (binary_kind op)) (waiting self.old.values self.old.n) (waiting self.new.values self.new.n) result }
+    {
+        let y = self.pop()?;
+        let x = self.pop()?;
+        if !has_room(x, y) {
+            return None;
+        }
+        self.push(binary(op, x, y))
+    }
+
+    // One node, where it finds what it needs and its value has a place.
+    fn turn(&mut self, word: u32, ws: &[u32]) -> Option<()>
+        ensures { Turned ws.now word (waiting self.old.values self.old.n) (waiting self.new.values self.new.n) result }
+    {
+        match decoded(word) {
+            Node::Number(n) => self.push(number(u64::from(n))),
+            Node::Port(i) => {
+                if ws.len() <= i {
+                    return None;
+                }
+                self.push(number(u64::from(ws[i])))
+            }
+            Node::One(op) => self.on_last(op),
+            Node::Two(op) => self.on_last_two(op),
         }
     }
-}
 
-// The value that waits alone, where floor takes it; else 0.
-#[tactic(auto, using(crate::proofs::Tested::alone_not_one))]
-fn only(cells: &[u64; CELLS], n: usize) -> Exact
-    ensures { result ≡ alone (waiting cells.now n) }
-{
-    if n != 1 {
-        return number(0);
+    // The value that waits alone, where floor takes it; else 0.
+    #[tactic(auto, using(crate::proofs::Tested::alone_not_one, crate::proofs::Tested::alone_one, crate::proofs::Tested::alone_wide))]
+    fn only(&self) -> Exact
+        ensures { result ≡ alone (waiting self.now.values self.now.n) }
+    {
+        if self.n == 1 && has_space(self.values[0]) {
+            self.values[0]
+        } else {
+            number(0)
+        }
     }
-    let x = taken(cells, 0);
-    if has_space(x) {
-        return x;
-    }
-    number(0)
 }
 
 // The value of the type whose code stands from one index to another, at the widths ws; 0 where no type's code stands there.
@@ -164,17 +173,17 @@ fn value_at(code: &[u32], from: usize, end: usize, ws: &[u32]) -> Exact
     if code.len() < end {
         return number(0);
     }
-    let mut cells = [0u64; CELLS];
-    let mut n = 0;
-    let mut i = from;
-    while i < end {
-        if !ready(code[i], ws, &cells, n) {
-            return number(0);
+    let mut waiting = Waiting {
+        values: [number(0); WORDS],
+        n: 0,
+    };
+    for i in from..end {
+        match waiting.turn(code[i], ws) {
+            Some(()) => {}
+            None => return number(0),
         }
-        n = step(code[i], ws, &mut cells, n);
-        i += 1;
     }
-    only(&cells, n)
+    waiting.only()
 }
 
 pub fn width_at(code: &[u32], from: usize, end: usize, ws: &[u32]) -> u64
