@@ -6,7 +6,7 @@ use Prim.Native.Nat.{ℕ, zero, suc, ◌+◌, ◌/◌, ◌%◌, ◌≤◌, ◌<�
 use native.Mathlib.Omega.{arith}
 use lib.Dec.{eqb, ltb, lit≤, lit<}
 use lib.ListN.{length, get_or}
-use borrow.Author.Tests.{lt-ltb, le-ltb, ltb-true, ltb-false, eqb-false, eq-eqb, ne_eqb}
+use borrow.Author.Tests.{lt-ltb, le-ltb, eqb-false, eq-eqb, ne_eqb}
 use Rattle.language.specs.declared.Exact.{Exact}
 use Rattle.language.specs.Types.{whole_of}
 use Rattle.type_value.specs.Terms.{Term, code, value_at, TypeOf, Small}
@@ -21,27 +21,9 @@ use Rattle.exact_room.specs.Tests.{has_space, has_room}
 use Rattle.exact.specs.Room.{Space}
 use Rattle.type_value.proofs.Bounds.{space}
 use Rattle.type_value.proofs.Walking.{part_more, part_none, walk_whole, Safe, safe_whole}
-use Rattle.exact_room.proofs.Fitting.{both, and, space_of_test, test_of_space, room_of_test, test_of_room}
+use Rattle.exact_room.proofs.Fitting.{and, space_of_test, test_of_space, test_of_room}
 
--- ---- a node that is tested ready is ready
-
-leaf_of_test : (ws : List ℕ) (k : ℕ) (st : List Exact) → k % 8 < 2 → ltb (length st) 64 && (eqb (k % 8) 0 || ltb (k / 8) (length ws)) ≡ true → Ready ws k st
-leaf_of_test ws k st h e =
-    let t = both (ltb (length st) 64) (eqb (k % 8) 0 || ltb (k / 8) (length ws)) e in
-    leaf h
-    (λ o. ltb-true (k / 8) (length ws) (rw (ne_eqb (k % 8) 0 (λ z. omega (arith, o, z))) at t.1))
-    (ltb-true (length st) 64 t.0)
-
-unary_of_test : (ws : List ℕ) (k : ℕ) (st : List Exact) → 2 ≤ k % 8 → k % 8 < 5 → last_has_space st ≡ true → Ready ws k st
-unfolding last_has_space
-unary_of_test ws k [] g h e = absurd (let z : ◌≡◌ {A = ℕ} 0 1 = cc in omega arith)
-unary_of_test ws k (x ∷ r) g h e = unary x r refl g h (space_of_test x e)
-
-binary_of_test : (ws : List ℕ) (k : ℕ) (st : List Exact) → 5 ≤ k % 8 → last_two_have_room st ≡ true → Ready ws k st
-unfolding last_two_have_room
-binary_of_test ws k [] g e = absurd (let z : ◌≡◌ {A = ℕ} 0 1 = cc in omega arith)
-binary_of_test ws k (y ∷ []) g e = absurd (let z : ◌≡◌ {A = ℕ} 0 1 = cc in omega arith)
-binary_of_test ws k (y ∷ (x ∷ r)) g e = binary x y r refl g (room_of_test x y e)
+-- ---- a node that is ready is tested ready
 
 module _ (ws : List ℕ) (k : ℕ) (st : List Exact) where
   pub test_leaf : k % 8 < 2 → is_ready ws k st ≡ ltb (length st) 64 && (eqb (k % 8) 0 || ltb (k / 8) (length ws))
@@ -55,14 +37,6 @@ module _ (ws : List ℕ) (k : ℕ) (st : List Exact) where
   pub test_binary : 5 ≤ k % 8 → is_ready ws k st ≡ last_two_have_room st
   unfolding is_ready
   test_binary g = rw (le-ltb (k % 8) 2 (omega arith), le-ltb (k % 8) 5 g, is_ready)
-
-  pub ready_of_test : is_ready ws k st ≡ true → Ready ws k st
-  ready_of_test e = go (ltb (k % 8) 2) (ltb (k % 8) 5) refl refl
-    where
-      go : (p q : Bool) → ltb (k % 8) 2 ≡ p → ltb (k % 8) 5 ≡ q → Ready ws k st
-      go true q f g = let h = ltb-true (k % 8) 2 f in leaf_of_test ws k st h (sym (test_leaf h) ∙ e)
-      go false true f g = let h = ltb-false (k % 8) 2 f in let j = ltb-true (k % 8) 5 g in unary_of_test ws k st h j (sym (test_unary h j) ∙ e)
-      go false false f g = let h = ltb-false (k % 8) 5 g in binary_of_test ws k st h (sym (test_binary h) ∙ e)
 
 pub test_of_ready : (ws : List ℕ) (k : ℕ) (st : List Exact) → Ready ws k st → is_ready ws k st ≡ true
 unfolding last_has_space last_two_have_room

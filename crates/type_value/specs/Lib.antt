@@ -1,2 +1,3 @@
 pub mod Terms
 pub mod Walk
+pub mod Held

@@ -5,11 +5,10 @@
 
 ghost use Rattle.std.specs.Prelude.{◌≡◌, ◌+◌, ◌*◌, ◌/◌, ◌%◌, ◌≤◌, ◌<◌, length};
 ghost use Rattle.language.specs.Limits.{limits};
-ghost use Rattle.language.specs.Types.{whole_of, width_of, position_of};
+ghost use Rattle.language.specs.Types.{width_of, position_of};
 ghost use Rattle.exact.specs.Room.{Space, Room, positioned};
 ghost use Rattle.type_value.specs.Terms.{value_at};
-ghost use Rattle.type_value.specs.Walk.{part, EachType, leaf_of, unary_of, binary_of, unary_kind, binary_kind, Means, is_ready, alone, value_of, waiting, Pushed, Popped, TurnedLast, TurnedLastTwo, Turned};
-ghost use Rattle.exact_room.specs.Tests.{fits, has_space, sums_fit, products_fit, has_room};
+ghost use Rattle.type_value.specs.Walk.{part, EachType, unary_of, binary_of, unary_kind, binary_kind, Means, alone, value_of, Pushed, Popped, TurnedLast, TurnedLastTwo, Turned};
 
 use exact::{ceil, floor, greater, log, minus, number, plus, position_of, width_of};
 use exact_room::{has_room, has_space};
@@ -90,8 +89,10 @@ struct Waiting {
 }
 
 impl Waiting {
+    ghost use Rattle.type_value.specs.Held.{held};
+
     fn push(&mut self, x: Exact) -> Option<()>
-        ensures { Pushed (waiting self.old.values self.old.n) x (waiting self.new.values self.new.n) result }
+        ensures { Pushed (held self.old) x (held self.new) result }
     {
         if self.n == WORDS {
             return None;
@@ -102,7 +103,7 @@ impl Waiting {
     }
 
     fn pop(&mut self) -> Option<Exact>
-        ensures { Popped (waiting self.old.values self.old.n) (waiting self.new.values self.new.n) result }
+        ensures { Popped (held self.old) (held self.new) result }
     {
         if self.n == 0 {
             return None;
@@ -113,7 +114,7 @@ impl Waiting {
 
     // The last value gives way to another.
     fn on_last(&mut self, op: OnOne) -> Option<()>
-        ensures { TurnedLast (unary_of (unary_kind op)) (waiting self.old.values self.old.n) (waiting self.new.values self.new.n) result }
+        ensures { TurnedLast (unary_of (unary_kind op)) (held self.old) (held self.new) result }
     {
         let x = self.pop()?;
         if !has_space(x) {
@@ -124,7 +125,7 @@ impl Waiting {
 
     // The last two values give way to one.
     fn on_last_two(&mut self, op: OnTwo) -> Option<()>
-        ensures { TurnedLastTwo (binary_of (binary_kind op)) (waiting self.old.values self.old.n) (waiting self.new.values self.new.n) result }
+        ensures { TurnedLastTwo (binary_of (binary_kind op)) (held self.old) (held self.new) result }
     {
         let y = self.pop()?;
         let x = self.pop()?;
@@ -136,7 +137,7 @@ impl Waiting {
 
     // One node, where it finds what it needs and its value has a place.
     fn turn(&mut self, word: u32, ws: &[u32]) -> Option<()>
-        ensures { Turned ws.now word (waiting self.old.values self.old.n) (waiting self.new.values self.new.n) result }
+        ensures { Turned ws.now word (held self.old) (held self.new) result }
     {
         match decoded(word) {
             Node::Number(n) => self.push(number(u64::from(n))),
@@ -154,7 +155,7 @@ impl Waiting {
     // The value that waits alone, where floor takes it; else 0.
     #[tactic(auto, using(crate::proofs::Tested::alone_not_one, crate::proofs::Tested::alone_one, crate::proofs::Tested::alone_wide))]
     fn only(&self) -> Exact
-        ensures { result ≡ alone (waiting self.now.values self.now.n) }
+        ensures { result ≡ alone (held self.now) }
     {
         if self.n == 1 && has_space(self.values[0]) {
             self.values[0]
