@@ -1,6 +1,7 @@
 -- A count with the end of its line, as document 01 has it and as the machine meets it. Assumes nothing.
 use mathlib.Core.Path.{◌≡◌, refl, sym, ap, ◌∙◌, subst}
 use mathlib.Core.Bool.{Bool, true, false}
+use Rattle.std.specs.Prelude.{Some, None}
 use mathlib.Core.List.{List, [], ◌∷◌, ◌++◌}
 use Prim.Native.Nat.{ℕ, suc, ◌+◌, ◌-◌, ◌*◌, ◌^◌, ◌≤◌, min}
 use native.Mathlib.Omega.{arith}
@@ -14,7 +15,7 @@ use Rattle.language.specs.Worked.{is_bad, any_number}
 use Rattle.language.specs.Reading.{Answer}
 use Rattle.figures.specs.declared.Stage.{Stage}
 use Rattle.figures.specs.declared.Stage.TheVariants.{ActorCount, Actor, BindingsCount, Bindings, CycleCount, Line, Wrong}
-use Rattle.figures.specs.States.{start_of, wrong_of, takes_of, longer_of}
+use Rattle.figures.specs.States.{start_of, wrong_of, so_far, takes_of, longer_of}
 use Rattle.input_bytes.specs.Texts.{count_byte}
 use Rattle.input_bytes.specs.Bytes.{Machine, stated, moved_at, moved_of, ended_at}
 use Rattle.tipirun.specs.Machine.{passed_at, passed_by, Judges, unwritten}
@@ -92,66 +93,66 @@ module _ {g₀ g : Stage} (k : Kind g₀ g) where
       }
 
   -- the number has ended
-  stops : (m : Machine) (b n most : ℕ) (bs out : List ℕ) → m.state.stage ≡ g₀ → m.state.begun ≡ true → m.state.number ≡ min n 18_446_744_073_709_551_615 → takes_of m.state b ≡ false
+  stops : (m : Machine) (b n most : ℕ) (bs out : List ℕ) → m.state.stage ≡ g₀ → m.state.number ≡ Some (min n 18_446_744_073_709_551_615) → takes_of m.state b ≡ false
       → digits_from most n (b ∷ bs) ≡ got n (b ∷ bs) → From m (b ∷ bs) out → Counted m g out (after (digits_from most n (b ∷ bs)) line_end)
   unfolding Counted
-  stops m b n most bs out e f h t d x = go (eqb b 10) refl
+  stops m b n most bs out e h t d x = go (eqb b 10) refl
     where
       go : (z : Bool) → eqb b 10 ≡ z → Counted m g out (after (digits_from most n (b ∷ bs)) line_end)
       go true q =
           subst (Counted m g out) (sym (end_here most n b bs d (eqb-true b 10 q)))
-          (enters m b (min n 18_446_744_073_709_551_615) bs out e (ap (start_of m.state g) (sym h) ∙ count_ends m.state b g t f (eqb-true b 10 q)) x)
+          (enters m b (min n 18_446_744_073_709_551_615) bs out e (count_ends m.state b g (min n 18_446_744_073_709_551_615) t h (eqb-true b 10 q)) x)
       go false q =
           subst (Counted m g out) (sym (end_lost most n b bs d (eqb-false b 10 q)))
-          (goes_wrong m b bs out e (count_wrong m.state b g t f (eqb-false b 10 q)) x)
+          (goes_wrong m b bs out e (count_wrong m.state b g (min n 18_446_744_073_709_551_615) t h (eqb-false b 10 q)) x)
 
   -- one more byte of a number that has begun, if the others go as they should
-  digit_run : (b : ℕ) (bs : List ℕ) (n : ℕ) (m : Machine) (out : List ℕ) (most : ℕ) → m.state.stage ≡ g₀ → m.state.begun ≡ true → m.state.number ≡ min n 18_446_744_073_709_551_615 → suc n * 10 ^ suc (length bs) ≤ most
-      → ((i : ℕ) (t : Machine) → t.state.stage ≡ g₀ → t.state.begun ≡ true → t.state.number ≡ min i 18_446_744_073_709_551_615 → suc i * 10 ^ length bs ≤ most → From t bs out → Counted t g out (after (digits_from most i bs) line_end))
+  digit_run : (b : ℕ) (bs : List ℕ) (n : ℕ) (m : Machine) (out : List ℕ) (most : ℕ) → m.state.stage ≡ g₀ → m.state.number ≡ Some (min n 18_446_744_073_709_551_615) → suc n * 10 ^ suc (length bs) ≤ most
+      → ((i : ℕ) (t : Machine) → t.state.stage ≡ g₀ → t.state.number ≡ Some (min i 18_446_744_073_709_551_615) → suc i * 10 ^ length bs ≤ most → From t bs out → Counted t g out (after (digits_from most i bs) line_end))
       → From m (b ∷ bs) out → Counted m g out (after (digits_from most n (b ∷ bs)) line_end)
   unfolding longer_of
-  digit_run b bs n m out most e f h r ih x = go (digit b) refl (ltb 0 n) refl
+  digit_run b bs n m out most e h r ih x = go (digit b) refl (ltb 0 n) refl
     where
-      positive : ltb 0 m.state.number ≡ ltb 0 n
+      positive : ltb 0 (min n 18_446_744_073_709_551_615) ≡ ltb 0 n
       positive = pos (ltb 0 n) refl
         where
-          pos : (z : Bool) → ltb 0 n ≡ z → ltb 0 m.state.number ≡ z
-          pos true q = let p = ltb-true 0 n q in lt-ltb 0 m.state.number (omega arith)
-          pos false q = let p = ltb-false 0 n q in le-ltb 0 m.state.number (omega arith)
+          pos : (z : Bool) → ltb 0 n ≡ z → ltb 0 (min n 18_446_744_073_709_551_615) ≡ z
+          pos true q = let p = ltb-true 0 n q in lt-ltb 0 (min n 18_446_744_073_709_551_615) (omega arith)
+          pos false q = let p = ltb-false 0 n q in le-ltb 0 (min n 18_446_744_073_709_551_615) (omega arith)
 
       go : (y : Bool) → digit b ≡ y → (z : Bool) → ltb 0 n ≡ z → Counted m g out (after (digits_from most n (b ∷ bs)) line_end)
-      go false p z q = stops m b n most bs out e f h (sym (takes_none m.state b p)) (stop_other most n b bs p) x
-      go true p false q = stops m b n most bs out e f h (sym (takes_next m.state b p f) ∙ positive ∙ q) (stop_zero most n b bs p q) x
+      go false p z q = stops m b n most bs out e h (sym (takes_none m.state b p)) (stop_other most n b bs p) x
+      go true p false q = stops m b n most bs out e h (sym (takes_next m.state b (min n 18_446_744_073_709_551_615) p h) ∙ positive ∙ q) (stop_zero most n b bs p q) x
       go true p true q =
           let w = digit_range b p in
           let s : suc (n * 10 + (b - 48)) * 10 ^ length bs ≤ most = room_next n (b - 48) (length bs) most (omega (arith, w)) r in
           subst (λ (y : Got ℕ). Counted m g out (after y line_end)) (sym (digit_more most n b bs p q (le-leb (n * 10 + (b - 48)) most (fits_next (n * 10 + (b - 48)) (length bs) most s))))
           (same_counted m b g out (after (digits_from most (n * 10 + (b - 48)) bs) line_end)
-          (ih (n * 10 + (b - 48)) (stated m (longer_of m.state b)) e refl (saturated n (b - 48) m.state.number h) s (goes_longer m b bs out e (sym (takes_next m.state b p f) ∙ positive ∙ q) x)))
+          (ih (n * 10 + (b - 48)) (stated m (longer_of m.state b)) e (ap Some (saturated n (b - 48) (so_far m.state.number) (ap so_far h))) s (goes_longer m b bs out e (sym (takes_next m.state b (min n 18_446_744_073_709_551_615) p h) ∙ positive ∙ q) x)))
 
-  digits_run : (bs : List ℕ) (n : ℕ) (m : Machine) (out : List ℕ) (most : ℕ) → m.state.stage ≡ g₀ → m.state.begun ≡ true → m.state.number ≡ min n 18_446_744_073_709_551_615 → suc n * 10 ^ length bs ≤ most
+  digits_run : (bs : List ℕ) (n : ℕ) (m : Machine) (out : List ℕ) (most : ℕ) → m.state.stage ≡ g₀ → m.state.number ≡ Some (min n 18_446_744_073_709_551_615) → suc n * 10 ^ length bs ≤ most
       → From m bs out → Counted m g out (after (digits_from most n bs) line_end)
   unfolding Counted digits_from after byte
-  digits_run [] n m out most e f h r x = ends_bad m out e x
-  digits_run (b ∷ bs) n m out most e f h r x = digit_run b bs n m out most e f h r (λ i t a c d s y. digits_run bs i t out most a c d s y) x
+  digits_run [] n m out most e h r x = ends_bad m out e x
+  digits_run (b ∷ bs) n m out most e h r x = digit_run b bs n m out most e h r (λ i t a d s y. digits_run bs i t out most a d s y) x
 
-  first_byte : (b : ℕ) (bs : List ℕ) (m : Machine) (out : List ℕ) → m.state.stage ≡ g₀ → m.state.begun ≡ false → m.state.number ≡ 0 → From m (b ∷ bs) out → Counted m g out (after (number_up_to (10 ^ suc (length bs)) (b ∷ bs)) line_end)
+  first_byte : (b : ℕ) (bs : List ℕ) (m : Machine) (out : List ℕ) → m.state.stage ≡ g₀ → m.state.number ≡ None → From m (b ∷ bs) out → Counted m g out (after (number_up_to (10 ^ suc (length bs)) (b ∷ bs)) line_end)
   unfolding Counted after longer_of
-  first_byte b bs m out e f h x = go (digit b) refl
+  first_byte b bs m out e h x = go (digit b) refl
     where
       go : (y : Bool) → digit b ≡ y → Counted m g out (after (number_up_to (10 ^ suc (length bs)) (b ∷ bs)) line_end)
       go false p =
           subst (λ (y : Got ℕ). Counted m g out (after y line_end)) (sym (no_digit (10 ^ suc (length bs)) b bs p))
-          (goes_wrong m b bs out e (count_unbegun m.state b g (sym (takes_none m.state b p)) f) x)
+          (goes_wrong m b bs out e (count_unbegun m.state b g (sym (takes_none m.state b p)) h) x)
       go true p =
           let w = digit_range b p in
           let s : suc (b - 48) * 10 ^ length bs ≤ 10 ^ suc (length bs) = (let a : suc (b - 48) ≤ 10 = omega (arith, w) in let c = mul-le-mul_right (10 ^ length bs) a in let d = pow-suc 10 (length bs) in omega arith) in
           subst (λ (y : Got ℕ). Counted m g out (after y line_end)) (sym (first_digit (10 ^ suc (length bs)) b bs p))
           (same_counted m b g out (after (digits_from (10 ^ suc (length bs)) (b - 48) bs) line_end)
-          (digits_run bs (b - 48) (stated m (longer_of m.state b)) out (10 ^ suc (length bs)) e refl (omega arith) s (goes_longer m b bs out e (sym (takes_first m.state b p f)) x)))
+          (digits_run bs (b - 48) (stated m (longer_of m.state b)) out (10 ^ suc (length bs)) e (ap Some (let z : so_far m.state.number ≡ 0 = ap so_far h in omega arith)) s (goes_longer m b bs out e (sym (takes_first m.state b p h)) x)))
 
   -- a count from its first byte on
-  pub count_run : (bs : List ℕ) (m : Machine) (out : List ℕ) → m.state.stage ≡ g₀ → m.state.begun ≡ false → m.state.number ≡ 0 → From m bs out → Counted m g out (after (any_number bs) line_end)
+  pub count_run : (bs : List ℕ) (m : Machine) (out : List ℕ) → m.state.stage ≡ g₀ → m.state.number ≡ None → From m bs out → Counted m g out (after (any_number bs) line_end)
   unfolding Counted any_number number_up_to after
-  count_run [] m out e f h x = ends_bad m out e x
-  count_run (b ∷ bs) m out e f h x = first_byte b bs m out e f h x
+  count_run [] m out e h x = ends_bad m out e x
+  count_run (b ∷ bs) m out e h x = first_byte b bs m out e h x

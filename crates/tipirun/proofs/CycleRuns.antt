@@ -1,5 +1,6 @@
 -- The cycles of a run, from a plan that agrees with its text: what is written is what document 01 says. Assumes nothing: what a plan has to agree in is a record, `Agrees`.
 use mathlib.Core.Path.{◌≡◌, refl, sym, ap, ap₂, ◌∙◌, subst}
+use Rattle.std.specs.Prelude.{None}
 use mathlib.Core.Bool.{false}
 use mathlib.Core.List.{List, [], ◌++◌}
 use Prim.Native.Nat.{ℕ, zero, suc, ◌≤◌}
@@ -41,8 +42,7 @@ module _ (s : Setting) (a : Agrees s) where
   -- the machine before a line: the memory and the outputs stand in their tables
   pub record AtLine (m : Machine) (t : State) (memory outputs : List ℕ) : Type 0 where
     pub stage : t.stage ≡ Line
-    pub begun : t.begun ≡ false
-    pub number : t.number ≡ 0
+    pub number : t.number ≡ None
     pub port : t.port ≡ 0
     pub plan : take t.plan m.plan ≡ plan_of s
     pub values : Slots (plan_of s) m.values
@@ -96,7 +96,6 @@ module _ (s : Setting) (a : Agrees s) where
     next_stands =
         record {
           stage = refl;
-          begun = refl;
           number = refl;
           port = refl;
           plan = x.plan;
@@ -138,4 +137,4 @@ module _ (s : Setting) (a : Agrees s) where
   cycles_run (suc k) = λ m t memory outputs bs out x l y.
       by_turn k (cycles_run k) m t memory outputs out x l (turn s.actor bs)
       (subst (Turns (plan_of s) t m out) (a.turns bs)
-      (turn_run (plan_of s) m t out x.stage (omega arith) x.port x.plan x.values bs x.begun x.number (still_comes (stated m t) bs out (omega arith) y)))
+      (turn_run (plan_of s) m t out x.stage (omega arith) x.port x.plan x.values bs x.number (still_comes (stated m t) bs out (omega arith) y)))

@@ -1,6 +1,7 @@
 -- A number of a cycle's line, as document 01 has it and as the machine meets it: a mask under 2^32, a value under 2^64. Assumes nothing.
 use mathlib.Core.Path.{◌≡◌, refl, sym, ap, ◌∙◌, subst}
 use mathlib.Core.Bool.{Bool, true, false}
+use Rattle.std.specs.Prelude.{None}
 use mathlib.Core.List.{List, [], ◌∷◌}
 use Prim.Native.Nat.{ℕ, ◌+◌, ◌-◌, ◌*◌, ◌≤◌, ◌<◌, min}
 use native.Mathlib.Omega.{arith}
@@ -12,7 +13,7 @@ use Rattle.language.specs.Worked.{is_bad}
 use Rattle.figures.specs.declared.Stage.{Stage}
 use Rattle.figures.specs.declared.Stage.TheVariants.{Line, Wrong}
 use Rattle.figures.specs.declared.State.{State}
-use Rattle.figures.specs.States.{wrong_of, grown_of, most_of, stays_of, line_takes, longer_of}
+use Rattle.figures.specs.States.{wrong_of, grown_of, so_far, most_of, stays_of, line_takes, longer_of}
 use Rattle.input_bytes.specs.Lines.{standing, line_byte}
 use Rattle.input_bytes.specs.Bytes.{Machine, stated, lined, moved_at, moved_of}
 use Rattle.figures.proofs.Counting.{takes_none, takes_first, takes_next, most_mask, most_value}
@@ -74,7 +75,7 @@ module _ (m : Machine) (s : State) (out : List ℕ) where
 
   fits_is : (b n : ℕ) → digit b ≡ true → ltb 0 n ≡ true → leb (n * 10 + (b - 48)) (most_of s.port) ≡ line_takes (grown_of s n) b
   unfolding stays_of
-  fits_is b n p q = line_first (grown_of s n) b (sym (takes_next (grown_of s n) b p refl) ∙ q)
+  fits_is b n p q = line_first (grown_of s n) b (sym (takes_next (grown_of s n) b n p refl) ∙ q)
 
   grows : (b n : ℕ) (bs : List ℕ) → s.stage ≡ Line → 0 < s.left → n * 10 + (b - 48) ≤ most_of s.port → line_takes (grown_of s n) b ≡ true → From (stated m (grown_of s n)) (b ∷ bs) out → From (stated m (grown_of s (n * 10 + (b - 48)))) bs out
   unfolding longer_of
@@ -90,7 +91,7 @@ module _ (m : Machine) (s : State) (out : List ℕ) where
     where
       go : (d : Bool) → digit b ≡ d → (z : Bool) → ltb 0 n ≡ z → (y : Bool) → leb (n * 10 + (b - 48)) (most_of s.port) ≡ y → Numbered (digits_from (most_of s.port) n (b ∷ bs))
       go false p z q y f = stop b n bs k (sym (line_none (grown_of s n) b (sym (takes_none (grown_of s n) b p)))) (stop_other (most_of s.port) n b bs p) x
-      go true p false q y f = stop b n bs k (sym (line_none (grown_of s n) b (sym (takes_next (grown_of s n) b p refl) ∙ q))) (stop_zero (most_of s.port) n b bs p q) x
+      go true p false q y f = stop b n bs k (sym (line_none (grown_of s n) b (sym (takes_next (grown_of s n) b n p refl) ∙ q))) (stop_zero (most_of s.port) n b bs p q) x
       go true p true q false f = stop b n bs k (sym (fits_is b n p q) ∙ f) (too_big b n bs p q f) x
       go true p true q true f =
           let l = leb-true (n * 10 + (b - 48)) (most_of s.port) f in
@@ -101,9 +102,9 @@ module _ (m : Machine) (s : State) (out : List ℕ) where
   line_digits [] n e h k x = record { rest = x; stops = λ b y f. (let z : ◌≡◌ {A = ℕ} 0 1 = cc in absurd (omega arith)); small = k }
   line_digits (b ∷ bs) n e h k x = digit_next b bs n e h k (λ i l y. line_digits bs i e h l y) x
 
-  first_of_law : (b : ℕ) (bs : List ℕ) → s.stage ≡ Line → 0 < s.left → s.begun ≡ false → s.number ≡ 0 → From (stated m s) (b ∷ bs) out → Numbered (number_up_to (most_of s.port) (b ∷ bs))
+  first_of_law : (b : ℕ) (bs : List ℕ) → s.stage ≡ Line → 0 < s.left → s.number ≡ None → From (stated m s) (b ∷ bs) out → Numbered (number_up_to (most_of s.port) (b ∷ bs))
   unfolding Numbered longer_of stays_of
-  first_of_law b bs e h f g x = go (digit b) refl
+  first_of_law b bs e h f x = go (digit b) refl
     where
       go : (d : Bool) → digit b ≡ d → Numbered (number_up_to (most_of s.port) (b ∷ bs))
       go false p =
@@ -112,15 +113,16 @@ module _ (m : Machine) (s : State) (out : List ℕ) where
       go true p =
           let r = digit_range b p in
           let w = bounds s.port in
-          let l : s.number * 10 + (b - 48) ≤ most_of s.port = omega (arith, r, w.0) in
-          let t : line_takes s b ≡ true = sym (line_first s b (sym (takes_first s b p f))) ∙ le-leb (s.number * 10 + (b - 48)) (most_of s.port) l in
-          let q : min (s.number * 10 + (b - 48)) 18_446_744_073_709_551_615 ≡ b - 48 = omega (arith, r) in
+          let z : so_far s.number ≡ 0 = ap so_far f in
+          let l : so_far s.number * 10 + (b - 48) ≤ most_of s.port = omega (arith, r, w.0) in
+          let t : line_takes s b ≡ true = sym (line_first s b (sym (takes_first s b p f))) ∙ le-leb (so_far s.number * 10 + (b - 48)) (most_of s.port) l in
+          let q : min (so_far s.number * 10 + (b - 48)) 18_446_744_073_709_551_615 ≡ b - 48 = omega (arith, r) in
           subst Numbered (sym (first_digit (most_of s.port) b bs p))
           (line_digits bs (b - 48) e h (omega (arith, r, w.0))
           (subst (λ (i : ℕ). From (stated m (grown_of s i)) bs out) q (line_on (stated m s) b (longer_of s b) bs out e h (line_takes_law s b m.plan m.values m.outputs m.memory t) x)))
 
   -- a number from its first byte on
-  pub line_number : (bs : List ℕ) → s.stage ≡ Line → 0 < s.left → s.begun ≡ false → s.number ≡ 0 → From (stated m s) bs out → Numbered (number_up_to (most_of s.port) bs)
+  pub line_number : (bs : List ℕ) → s.stage ≡ Line → 0 < s.left → s.number ≡ None → From (stated m s) bs out → Numbered (number_up_to (most_of s.port) bs)
   unfolding Numbered number_up_to
-  line_number [] e h f g x = line_cut (stated m s) out e x
-  line_number (b ∷ bs) e h f g x = first_of_law b bs e h f g x
+  line_number [] e h f x = line_cut (stated m s) out e x
+  line_number (b ∷ bs) e h f x = first_of_law b bs e h f x

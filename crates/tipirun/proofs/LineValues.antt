@@ -1,5 +1,6 @@
 -- The values of a cycle's line, one for each input of the plan, and the end of the line, at which the cycle is run. Assumes nothing.
 use mathlib.Core.Path.{◌≡◌, refl, sym, ap, ◌∙◌, subst}
+use Rattle.std.specs.Prelude.{Some, None}
 use mathlib.Core.Bool.{Bool, true, false}
 use mathlib.Core.List.{List, [], ◌∷◌, ◌++◌, append_assoc, append-nil}
 use Prim.Native.Nat.{ℕ, zero, suc, ◌+◌, ◌-◌, ◌≤◌, ◌<◌}
@@ -84,59 +85,59 @@ module _ (p : List ℕ) where
   -- ---- a number of the line has ended as v, before the byte b
 
   module _ (m : Machine) (s : State) (v : ℕ) (e : s.stage ≡ Line) (h : 0 < s.left) (plan : take s.plan m.plan ≡ p) where
-    ends_as : (b : ℕ) → line_takes (grown_of s v) b ≡ false → number_ends (grown_of s v) b p m.values m.outputs m.memory ≡ line_byte (grown_of s v) b m.plan m.values m.outputs m.memory
-    ends_as b t = ap (λ (l : List ℕ). number_ends (grown_of s v) b l m.values m.outputs m.memory) (sym plan) ∙ line_ends (grown_of s v) b m.plan m.values m.outputs m.memory t refl
+    ends_as : (b : ℕ) → line_takes (grown_of s v) b ≡ false → number_ends (grown_of s v) v b p m.values m.outputs m.memory ≡ line_byte (grown_of s v) b m.plan m.values m.outputs m.memory
+    ends_as b t = ap (λ (l : List ℕ). number_ends (grown_of s v) v b l m.values m.outputs m.memory) (sym plan) ∙ line_ends (grown_of s v) b m.plan m.values m.outputs m.memory v t refl
 
-    moved_as : (b : ℕ) (x : Lined) → line_takes (grown_of s v) b ≡ false → x ≡ number_ends (grown_of s v) b p m.values m.outputs m.memory → moved_of (stated m (grown_of s v)) b ≡ lined m x
+    moved_as : (b : ℕ) (x : Lined) → line_takes (grown_of s v) b ≡ false → x ≡ number_ends (grown_of s v) v b p m.values m.outputs m.memory → moved_of (stated m (grown_of s v)) b ≡ lined m x
     unfolding moved_of moved_at
     moved_as b x t q = ap (λ (g : Stage). moved_at g (stated m (grown_of s v)) b) e ∙ ap (lined m) (sym (q ∙ ends_as b t))
 
-    over : (i c : ℕ) (r out : List ℕ) → next_input p s.port ≡ i → ports_of p ≤ i → i ≤ ports_of p → Slots (values_after (grown_of s v) m.values) → c ≡ 10 → Ended m s out v (c ∷ r)
-        → Run s m (mask_after (grown_of s v)) (take i (values_after (grown_of s v) m.values)) [] r out
+    over : (i c : ℕ) (r out : List ℕ) → next_input p s.port ≡ None → ports_of p ≤ i → i ≤ ports_of p → Slots (values_after (grown_of s v) v m.values) → c ≡ 10 → Ended m s out v (c ∷ r)
+        → Run s m (mask_after (grown_of s v) v) (take i (values_after (grown_of s v) v m.values)) [] r out
     unfolding turned_of
     over i c r out q a b z f x =
         record {
-          values = values_after (grown_of s v) m.values;
+          values = values_after (grown_of s v) v m.values;
           slots = z;
-          first = ap (λ (k : ℕ). take k (values_after (grown_of s v) m.values)) (let k : ports_of p ≡ i = omega arith in k) ∙ sym (append-nil (take i (values_after (grown_of s v) m.values)));
+          first = ap (λ (k : ℕ). take k (values_after (grown_of s v) v m.values)) (let k : ports_of p ≡ i = omega arith in k) ∙ sym (append-nil (take i (values_after (grown_of s v) v m.values)));
           runs =
-              after_byte (stated m (grown_of s v)) (lined m (turned_of (grown_of s v) (mask_after (grown_of s v)) p (values_after (grown_of s v) m.values) m.outputs m.memory)) c r out
-              (moved_as c (turned_of (grown_of s v) (mask_after (grown_of s v)) p (values_after (grown_of s v) m.values) m.outputs m.memory) (x.stops c r refl)
-              (end_turn (grown_of s v) c p m.values m.outputs m.memory i (ports_of p) (sym q) refl a f))
+              after_byte (stated m (grown_of s v)) (lined m (turned_of (grown_of s v) (mask_after (grown_of s v) v) p (values_after (grown_of s v) v m.values) m.outputs m.memory)) c r out
+              (moved_as c (turned_of (grown_of s v) (mask_after (grown_of s v) v) p (values_after (grown_of s v) v m.values) m.outputs m.memory) (x.stops c r refl)
+              (end_turn (grown_of s v) v c p m.values m.outputs m.memory q f))
               x.rest;
         }
 
-    astray : (i c : ℕ) (r out : List ℕ) → next_input p s.port ≡ i → ports_of p ≤ i → (c ≡ 10 → ⊥) → Ended m s out v (c ∷ r) → out ≡ is_bad
-    astray i c r out q a f x =
-        line_wrong (stated m (grown_of s v)) c r out e (end_wrong (grown_of s v) c p m.values m.outputs m.memory i (ports_of p) (sym q) refl a f ∙ ends_as c (x.stops c r refl)) x.rest
+    astray : (c : ℕ) (r out : List ℕ) → next_input p s.port ≡ None → (c ≡ 10 → ⊥) → Ended m s out v (c ∷ r) → out ≡ is_bad
+    astray c r out q f x =
+        line_wrong (stated m (grown_of s v)) c r out e (end_wrong (grown_of s v) v c p m.values m.outputs m.memory q f ∙ ends_as c (x.stops c r refl)) x.rest
 
-    unblanked : (i c : ℕ) (r out : List ℕ) → next_input p s.port ≡ i → i < ports_of p → (c ≡ 32 → ⊥) → Ended m s out v (c ∷ r) → out ≡ is_bad
-    unblanked i c r out q a f x =
-        line_wrong (stated m (grown_of s v)) c r out e (blank_wrong (grown_of s v) c p m.values m.outputs m.memory i (ports_of p) (sym q) refl a f ∙ ends_as c (x.stops c r refl)) x.rest
+    unblanked : (i c : ℕ) (r out : List ℕ) → next_input p s.port ≡ Some i → (c ≡ 32 → ⊥) → Ended m s out v (c ∷ r) → out ≡ is_bad
+    unblanked i c r out q f x =
+        line_wrong (stated m (grown_of s v)) c r out e (blank_wrong (grown_of s v) v c p m.values m.outputs m.memory i q f ∙ ends_as c (x.stops c r refl)) x.rest
 
     -- the value of the input i is to come
-    blanked : (i c : ℕ) (r out : List ℕ) → next_input p s.port ≡ i → i < ports_of p → c ≡ 32 → Ended m s out v (c ∷ r)
-        → From (machine (port_of (grown_of s v) (mask_after (grown_of s v)) (i + 1)) m.actor m.bindings m.plan (values_after (grown_of s v) m.values) m.outputs m.memory []) r out
-    blanked i c r out q a f x =
-        let t : Lined = standing (port_of (grown_of s v) (mask_after (grown_of s v)) (i + 1)) (values_after (grown_of s v) m.values) m.outputs m.memory in
+    blanked : (i c : ℕ) (r out : List ℕ) → next_input p s.port ≡ Some i → c ≡ 32 → Ended m s out v (c ∷ r)
+        → From (machine (port_of (grown_of s v) (mask_after (grown_of s v) v) (i + 1)) m.actor m.bindings m.plan (values_after (grown_of s v) v m.values) m.outputs m.memory []) r out
+    blanked i c r out q f x =
+        let t : Lined = standing (port_of (grown_of s v) (mask_after (grown_of s v) v) (i + 1)) (values_after (grown_of s v) v m.values) m.outputs m.memory in
         still_comes (lined m t) r out h
         (enters_by (stated m (grown_of s v)) (lined m t) c r out
-        (moved_as c t (x.stops c r refl) (blank_next (grown_of s v) c p m.values m.outputs m.memory i (ports_of p) (sym q) refl a f)) refl x.rest)
+        (moved_as c t (x.stops c r refl) (blank_next (grown_of s v) v c p m.values m.outputs m.memory i q f)) refl x.rest)
 
     -- no input is to come
-    last : (i : ℕ) (r out : List ℕ) → next_input p s.port ≡ i → ports_of p ≤ i → i ≤ ports_of p → Slots (values_after (grown_of s v) m.values) → Ended m s out v r
-        → Finish s m (mask_after (grown_of s v)) (take i (values_after (grown_of s v) m.values)) out (line_over [] r)
+    last : (i : ℕ) (r out : List ℕ) → next_input p s.port ≡ None → ports_of p ≤ i → i ≤ ports_of p → Slots (values_after (grown_of s v) v m.values) → Ended m s out v r
+        → Finish s m (mask_after (grown_of s v) v) (take i (values_after (grown_of s v) v m.values)) out (line_over [] r)
     unfolding Finish byte
     last i [] out q a b z x = line_cut (stated m (grown_of s v)) out e x.rest
     last i (c ∷ r) out q a b z x = go (eqb 10 c) refl
       where
-        go : (t : Bool) → eqb 10 c ≡ t → Finish s m (mask_after (grown_of s v)) (take i (values_after (grown_of s v) m.values)) out (elim t [ true ↦ got [] r | false ↦ lost (c ∷ r) ])
+        go : (t : Bool) → eqb 10 c ≡ t → Finish s m (mask_after (grown_of s v) v) (take i (values_after (grown_of s v) v m.values)) out (elim t [ true ↦ got [] r | false ↦ lost (c ∷ r) ])
         go true f = over i c r out q a b z (sym (eqb-true 10 c f)) x
-        go false f = astray i c r out q a (λ k. eqb-false 10 c f (sym k)) x
+        go false f = astray c r out q (λ k. eqb-false 10 c f (sym k)) x
 
   -- ---- the values, one after the other
 
-  from_here : (k i : ℕ) → ltb (port_at p i) 256 ≡ true → input_from p (suc k) i ≡ i
+  from_here : (k i : ℕ) → ltb (port_at p i) 256 ≡ true → input_from p (suc k) i ≡ Some i
   unfolding input_from
   from_here k i f = simp (input_from, f)
 
@@ -173,63 +174,63 @@ module _ (p : List ℕ) where
   -- what is to be shown of k ports from i on
   abbrev Goes : ℕ → ℕ → List ℕ → Type 0
   Goes k i out =
-      (m : Machine) (s : State) (v : ℕ) (r : List ℕ) → s.stage ≡ Line → 0 < s.left → take s.plan m.plan ≡ p → next_input p s.port ≡ input_from p k i → Slots (values_after (grown_of s v) m.values) → Ended m s out v r
-      → Finish s m (mask_after (grown_of s v)) (take i (values_after (grown_of s v) m.values)) out (after (values_from p k i r) line_over)
+      (m : Machine) (s : State) (v : ℕ) (r : List ℕ) → s.stage ≡ Line → 0 < s.left → take s.plan m.plan ≡ p → next_input p s.port ≡ input_from p k i → Slots (values_after (grown_of s v) v m.values) → Ended m s out v r
+      → Finish s m (mask_after (grown_of s v) v) (take i (values_after (grown_of s v) v m.values)) out (after (values_from p k i r) line_over)
 
   output_next : (k i : ℕ) (out : List ℕ) → i < ports_of p → ltb (port_at p i) 256 ≡ false → Goes k (i + 1) out → Goes (suc k) i out
   output_next k i out a f ih m s v r e h plan q z x =
-      let w = values_after (grown_of s v) m.values in
+      let w = values_after (grown_of s v) v m.values in
       let l = z.long in
       let b : take (i + 1) w ≡ take i w ++ (0 ∷ []) = ap (λ (j : ℕ). take j w) (add-one i) ∙ take-suc w i 0 (omega arith) ∙ ap (λ (y : ℕ). take i w ++ (y ∷ [])) (z.zeros i a (ltb-false (port_at p i) 256 f)) in
-      subst (λ (y : Got (List ℕ)). Finish s m (mask_after (grown_of s v)) (take i w) out (after y line_over)) (sym (output_values k i r f))
-      (one_more s m (mask_after (grown_of s v)) 0 (take i w) out (values_from p k (i + 1) r)
-      (subst (λ (y : List ℕ). Finish s m (mask_after (grown_of s v)) y out (after (values_from p k (i + 1) r) line_over)) b (ih m s v r e h plan (q ∙ from_past k i f) z x)))
+      subst (λ (y : Got (List ℕ)). Finish s m (mask_after (grown_of s v) v) (take i w) out (after y line_over)) (sym (output_values k i r f))
+      (one_more s m (mask_after (grown_of s v) v) 0 (take i w) out (values_from p k (i + 1) r)
+      (subst (λ (y : List ℕ). Finish s m (mask_after (grown_of s v) v) y out (after (values_from p k (i + 1) r) line_over)) b (ih m s v r e h plan (q ∙ from_past k i f) z x)))
 
   -- the value of an input is w, before the bytes x
-  value_next : (k i : ℕ) (out : List ℕ) → i + suc k ≡ ports_of p → port_at p i < 256 → Goes k (i + 1) out → (m : Machine) (s : State) (v : ℕ) → s.stage ≡ Line → 0 < s.left → take s.plan m.plan ≡ p → Slots (values_after (grown_of s v) m.values)
+  value_next : (k i : ℕ) (out : List ℕ) → i + suc k ≡ ports_of p → port_at p i < 256 → Goes k (i + 1) out → (m : Machine) (s : State) (v : ℕ) → s.stage ≡ Line → 0 < s.left → take s.plan m.plan ≡ p → Slots (values_after (grown_of s v) v m.values)
       → (w : ℕ) (x : List ℕ)
-      → Ended (machine m.state m.actor m.bindings m.plan (values_after (grown_of s v) m.values) m.outputs m.memory []) (port_of (grown_of s v) (mask_after (grown_of s v)) (i + 1)) out w x
-      → Finish s m (mask_after (grown_of s v)) (take i (values_after (grown_of s v) m.values) ++ (w ∷ [])) out (after (values_from p k (i + 1) x) line_over)
+      → Ended (machine m.state m.actor m.bindings m.plan (values_after (grown_of s v) v m.values) m.outputs m.memory []) (port_of (grown_of s v) (mask_after (grown_of s v) v) (i + 1)) out w x
+      → Finish s m (mask_after (grown_of s v) v) (take i (values_after (grown_of s v) v m.values) ++ (w ∷ [])) out (after (values_from p k (i + 1) x) line_over)
   value_next k i out a f ih m s v e h plan z w x y =
-      let u = values_after (grown_of s v) m.values in
-      let mask = mask_after (grown_of s v) in
+      let u = values_after (grown_of s v) v m.values in
+      let mask = mask_after (grown_of s v) v in
       let t : State = port_of (grown_of s v) mask (i + 1) in
       let n : Machine = machine m.state m.actor m.bindings m.plan u m.outputs m.memory [] in
       let some : i + 1 ≡ 0 → ⊥ = λ q. omega arith in
-      let stored : set u i w ≡ values_after (grown_of t w) u = values_new (grown_of t w) u i some (omega arith) in
+      let stored : set u i w ≡ values_after (grown_of t w) w u = values_new (grown_of t w) w u i some (omega arith) in
       let l = z.long in
-      let b : take (i + 1) (values_after (grown_of t w) u) ≡ take i u ++ (w ∷ []) = ap (take (i + 1)) (sym stored) ∙ ap (λ (j : ℕ). take j (set u i w)) (add-one i) ∙ take-suc-set u i w (omega arith) in
+      let b : take (i + 1) (values_after (grown_of t w) w u) ≡ take i u ++ (w ∷ []) = ap (take (i + 1)) (sym stored) ∙ ap (λ (j : ℕ). take j (set u i w)) (add-one i) ∙ take-suc-set u i w (omega arith) in
       same_finish s m v mask (i + 1) mask u (take i u ++ (w ∷ [])) out (after (values_from p k (i + 1) x) line_over)
-      (subst (λ (c : ℕ). Finish t n c (take i u ++ (w ∷ [])) out (after (values_from p k (i + 1) x) line_over)) (sym (mask_old (grown_of t w) some))
-      (subst (λ (c : List ℕ). Finish t n (mask_after (grown_of t w)) c out (after (values_from p k (i + 1) x) line_over)) b
+      (subst (λ (c : ℕ). Finish t n c (take i u ++ (w ∷ [])) out (after (values_from p k (i + 1) x) line_over)) (sym (mask_old (grown_of t w) w some))
+      (subst (λ (c : List ℕ). Finish t n (mask_after (grown_of t w) w) c out (after (values_from p k (i + 1) x) line_over)) b
       (ih n t w x refl h plan (sym (input_first p (ports_of p) (i + 1) refl) ∙ ap (λ (j : ℕ). input_from p j (i + 1)) (let j : ports_of p - (i + 1) ≡ k = omega arith in j)) (subst Slots stored (kept_slots u i w f z)) y)))
 
-  number_next_law : (k i : ℕ) (out : List ℕ) → i + suc k ≡ ports_of p → port_at p i < 256 → Goes k (i + 1) out → (m : Machine) (s : State) (v : ℕ) → s.stage ≡ Line → 0 < s.left → take s.plan m.plan ≡ p → Slots (values_after (grown_of s v) m.values)
-      → (y : Got ℕ) → Numbered (machine m.state m.actor m.bindings m.plan (values_after (grown_of s v) m.values) m.outputs m.memory []) (port_of (grown_of s v) (mask_after (grown_of s v)) (i + 1)) out y
-      → Finish s m (mask_after (grown_of s v)) (take i (values_after (grown_of s v) m.values)) out (after (after y (λ v x. after (values_from p k (i + 1) x) (λ l y. got (v ∷ l) y))) line_over)
+  number_next_law : (k i : ℕ) (out : List ℕ) → i + suc k ≡ ports_of p → port_at p i < 256 → Goes k (i + 1) out → (m : Machine) (s : State) (v : ℕ) → s.stage ≡ Line → 0 < s.left → take s.plan m.plan ≡ p → Slots (values_after (grown_of s v) v m.values)
+      → (y : Got ℕ) → Numbered (machine m.state m.actor m.bindings m.plan (values_after (grown_of s v) v m.values) m.outputs m.memory []) (port_of (grown_of s v) (mask_after (grown_of s v) v) (i + 1)) out y
+      → Finish s m (mask_after (grown_of s v) v) (take i (values_after (grown_of s v) v m.values)) out (after (after y (λ v x. after (values_from p k (i + 1) x) (λ l y. got (v ∷ l) y))) line_over)
   unfolding Finish Numbered after
   number_next_law k i out a f ih m s v e h plan z (lost r) x = x
   number_next_law k i out a f ih m s v e h plan z (got w r) x =
-      one_more s m (mask_after (grown_of s v)) w (take i (values_after (grown_of s v) m.values)) out (values_from p k (i + 1) r) (value_next k i out a f ih m s v e h plan z w r x)
+      one_more s m (mask_after (grown_of s v) v) w (take i (values_after (grown_of s v) v m.values)) out (values_from p k (i + 1) r) (value_next k i out a f ih m s v e h plan z w r x)
 
-  blank_then : (k i : ℕ) (out : List ℕ) → i + suc k ≡ ports_of p → port_at p i < 256 → Goes k (i + 1) out → (m : Machine) (s : State) (v : ℕ) (r : List ℕ) → s.stage ≡ Line → 0 < s.left → take s.plan m.plan ≡ p → next_input p s.port ≡ i
-      → Slots (values_after (grown_of s v) m.values) → Ended m s out v r
-      → Finish s m (mask_after (grown_of s v)) (take i (values_after (grown_of s v) m.values)) out (after (byte 32 r (λ r. after (number_up_to 18_446_744_073_709_551_615 r) (λ v x. after (values_from p k (i + 1) x) (λ l y. got (v ∷ l) y)))) line_over)
+  blank_then : (k i : ℕ) (out : List ℕ) → i + suc k ≡ ports_of p → port_at p i < 256 → Goes k (i + 1) out → (m : Machine) (s : State) (v : ℕ) (r : List ℕ) → s.stage ≡ Line → 0 < s.left → take s.plan m.plan ≡ p → next_input p s.port ≡ Some i
+      → Slots (values_after (grown_of s v) v m.values) → Ended m s out v r
+      → Finish s m (mask_after (grown_of s v) v) (take i (values_after (grown_of s v) v m.values)) out (after (byte 32 r (λ r. after (number_up_to 18_446_744_073_709_551_615 r) (λ v x. after (values_from p k (i + 1) x) (λ l y. got (v ∷ l) y)))) line_over)
   unfolding Finish byte after
   blank_then k i out a f ih m s v [] e h plan q z x = line_cut (stated m (grown_of s v)) out e x.rest
   blank_then k i out a f ih m s v (c ∷ r) e h plan q z x = go (eqb 32 c) refl
     where
-      go : (t : Bool) → eqb 32 c ≡ t → Finish s m (mask_after (grown_of s v)) (take i (values_after (grown_of s v) m.values)) out (after (elim t as (λ (y : Bool). Got (List ℕ)) [ true ↦ after (number_up_to 18_446_744_073_709_551_615 r) (λ v x. after (values_from p k (i + 1) x) (λ l y. got (v ∷ l) y)) | false ↦ lost (c ∷ r) ]) line_over)
-      go false g = unblanked m s v e h plan i c r out q (omega arith) (λ y. eqb-false 32 c g (sym y)) x
+      go : (t : Bool) → eqb 32 c ≡ t → Finish s m (mask_after (grown_of s v) v) (take i (values_after (grown_of s v) v m.values)) out (after (elim t as (λ (y : Bool). Got (List ℕ)) [ true ↦ after (number_up_to 18_446_744_073_709_551_615 r) (λ v x. after (values_from p k (i + 1) x) (λ l y. got (v ∷ l) y)) | false ↦ lost (c ∷ r) ]) line_over)
+      go false g = unblanked m s v e h plan i c r out q (λ y. eqb-false 32 c g (sym y)) x
       go true g =
           number_next_law k i out a f ih m s v e h plan z (number_up_to 18_446_744_073_709_551_615 r)
-          (subst (λ (b : ℕ). Numbered (machine m.state m.actor m.bindings m.plan (values_after (grown_of s v) m.values) m.outputs m.memory []) (port_of (grown_of s v) (mask_after (grown_of s v)) (i + 1)) out (number_up_to b r)) (sym (most_value (i + 1) (λ y. omega arith)))
-          (line_number (machine m.state m.actor m.bindings m.plan (values_after (grown_of s v) m.values) m.outputs m.memory []) (port_of (grown_of s v) (mask_after (grown_of s v)) (i + 1)) out r refl h refl refl
-          (blanked m s v e h plan i c r out q (omega arith) (sym (eqb-true 32 c g)) x)))
+          (subst (λ (b : ℕ). Numbered (machine m.state m.actor m.bindings m.plan (values_after (grown_of s v) v m.values) m.outputs m.memory []) (port_of (grown_of s v) (mask_after (grown_of s v) v) (i + 1)) out (number_up_to b r)) (sym (most_value (i + 1) (λ y. omega arith)))
+          (line_number (machine m.state m.actor m.bindings m.plan (values_after (grown_of s v) v m.values) m.outputs m.memory []) (port_of (grown_of s v) (mask_after (grown_of s v) v) (i + 1)) out r refl h refl
+          (blanked m s v e h plan i c r out q (sym (eqb-true 32 c g)) x)))
 
   input_next : (k i : ℕ) (out : List ℕ) → i + suc k ≡ ports_of p → ltb (port_at p i) 256 ≡ true → Goes k (i + 1) out → Goes (suc k) i out
   input_next k i out a f ih m s v r e h plan q z x =
-      subst (λ (y : Got (List ℕ)). Finish s m (mask_after (grown_of s v)) (take i (values_after (grown_of s v) m.values)) out (after y line_over)) (sym (input_values k i r f))
+      subst (λ (y : Got (List ℕ)). Finish s m (mask_after (grown_of s v) v) (take i (values_after (grown_of s v) v m.values)) out (after y line_over)) (sym (input_values k i r f))
       (blank_then k i out a (ltb-true (port_at p i) 256 f) ih m s v r e h plan (q ∙ from_here k i f) z x)
 
   either_next : (k i : ℕ) (out : List ℕ) → i + suc k ≡ ports_of p → Goes k (i + 1) out → Goes (suc k) i out
@@ -262,8 +263,8 @@ module _ (p : List ℕ) where
       go false y = y
 
   module _ (m : Machine) (s : State) (out : List ℕ) (e : s.stage ≡ Line) (h : 0 < s.left) (first : s.port ≡ 0) (plan : take s.plan m.plan ≡ p) (z : Slots m.values) where
-    mask_is : (v : ℕ) → v ≤ most_of s.port → mask_after (grown_of s v) ≡ v
-    mask_is v k = sym (mask_new (grown_of s v) first) ∙ (let a = most_mask s.port first in omega arith)
+    mask_is : (v : ℕ) → v ≤ most_of s.port → mask_after (grown_of s v) v ≡ v
+    mask_is v k = sym (mask_new (grown_of s v) v first) ∙ (let a = most_mask s.port first in omega arith)
 
     masked : (y : Got ℕ) → Numbered m s out y → Turns s m out (after y (λ v r. after (values_from p (ports_of p) 0 r) (λ l x. byte 10 x (λ y. got (record { mask = v; values = l }) y))))
     unfolding Turns Numbered after
@@ -273,8 +274,8 @@ module _ (p : List ℕ) where
         (subst (λ (k : ℕ). Finish s m k [] out (after (values_from p (ports_of p) 0 r) line_over)) (mask_is v x.small)
         (values_run (ports_of p) 0 out (omega arith) m s v r e h plan
         (ap (next_input p) first ∙ sym (input_first p (ports_of p) 0 refl) ∙ ap (λ (k : ℕ). input_from p k 0) (let k : ports_of p - 0 ≡ ports_of p = omega arith in k))
-        (subst Slots (values_old (grown_of s v) m.values first) z) x))
+        (subst Slots (values_old (grown_of s v) v m.values first) z) x))
 
-    pub turn_run : (bs : List ℕ) → s.begun ≡ false → s.number ≡ 0 → From (stated m s) bs out → Turns s m out (plan_turn p bs)
+    pub turn_run : (bs : List ℕ) → s.number ≡ None → From (stated m s) bs out → Turns s m out (plan_turn p bs)
     unfolding plan_turn
-    turn_run bs f g x = masked (number_up_to 4_294_967_295 bs) (subst (λ (k : ℕ). Numbered m s out (number_up_to k bs)) (sym (most_mask s.port first)) (line_number m s out bs e h f g x))
+    turn_run bs f x = masked (number_up_to 4_294_967_295 bs) (subst (λ (k : ℕ). Numbered m s out (number_up_to k bs)) (sym (most_mask s.port first)) (line_number m s out bs e h f x))

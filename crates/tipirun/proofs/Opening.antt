@@ -1,5 +1,6 @@
 -- A run up to its cycles: what is written is `bad`, or a refusal's line, or comes from a plan in its table, as document 01 has it. Assumes nothing.
 use mathlib.Core.Path.{◌≡◌, refl, sym, ap, ap₂, ◌∙◌, subst}
+use Rattle.std.specs.Prelude.{None}
 use mathlib.Core.Bool.{Bool, true, false}
 use mathlib.Core.List.{List, [], ◌∷◌}
 use Prim.Native.Nat.{ℕ, ◌≤◌, ◌<◌}
@@ -94,8 +95,7 @@ between_same actor m b x = record { fresh = record { plan = x.fresh.plan; values
 
 pub record Ready (s : Setting) (m : Machine) : Type 0 where
   pub stage : m.state.stage ≡ CycleCount
-  pub begun : m.state.begun ≡ false
-  pub number : m.state.number ≡ 0
+  pub number : m.state.number ≡ None
   pub long : m.state.plan ≡ length (plan_of s)
   pub before : List ℕ
   pub room : length before ≡ 16_384
@@ -141,7 +141,7 @@ module _ (actor bindings rest out : List ℕ) (m : Machine) (e : m.state.stage �
           let h = leb-true (length (plan_of s)) (length m.plan) q in
           let l = f.plan in
           runs_on s (machine (planned_of m.state (length (plan_of s))) m.actor m.bindings (table_after (accepted s) m.plan) m.values m.outputs m.memory []) r (omega arith)
-          (record { stage = refl; begun = refl; number = refl; long = refl; before = m.plan; room = f.plan; plan = refl; values = f.values; outputs = f.outputs; memory = f.memory })
+          (record { stage = refl; number = refl; long = refl; before = m.plan; room = f.plan; plan = refl; values = f.values; outputs = f.outputs; memory = f.memory })
           (told_as (accepted s) (Plan (length (plan_of s))) (made true s q) w)
       go false q =
           let h = leb-false (length (plan_of s)) (length m.plan) q in
@@ -187,7 +187,7 @@ module _ (actor rest out : List ℕ) (w : Whole actor_text 8_193 Before before_s
       counted_run bindings_text 2_049 (Between actor) (between_same actor) bindings_count now_at out
       (λ n. subst (λ (i : ℕ). Kept w.at.bindings i 2_049 []) (sym w.holds.none) (kept_none w.at.bindings 2_049 w.holds.table))
       (λ n. record { fresh = record { plan = w.holds.fresh.plan; values = w.holds.fresh.values; outputs = w.holds.fresh.outputs; memory = w.holds.fresh.memory }; kept = w.kept })
-      rest refl refl refl h goes_on_law
+      rest refl refl h goes_on_law
 
 begins : (input out : List ℕ) → length input < 18_446_744_073_709_551_615 → From started input out → Texted actor_text 8_193 Before before_same out (counted input)
 unfolding started
@@ -195,7 +195,7 @@ begins input out h x =
     counted_run actor_text 8_193 Before before_same actor_count started out
     (λ n. kept_none (replicate 8_193 0) 8_193 (length-replicate {A = ℕ} 8_193 0))
     (λ n. record { fresh = record { plan = length-replicate {A = ℕ} 16_384 0; values = refl; outputs = refl; memory = refl }; table = length-replicate {A = ℕ} 2_049 0; none = refl })
-    input refl refl refl h x
+    input refl refl h x
 
 second : (input actor r out : List ℕ) → counted input ≡ got actor r → (y : Got (List ℕ)) → counted r ≡ y → Texted bindings_text 2_049 (Between actor) (between_same actor) out y → Opening input out
 unfolding Texted input_of after

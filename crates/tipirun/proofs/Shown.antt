@@ -73,7 +73,7 @@ opens : (input out : List ℕ) (i : Input) (r : List ℕ) → input_of input ≡
 unfolding answered
 opens input out i r e (refuses n p t a g) = as_told (not_accepted e a) (same input (sym g) (writes (refused n t p) e a))
 opens input out i r e (no_room s a h f) = thirteen s e a h f
-opens input out i r e (runs_on s m a h q x) = counts input out i r s m e a h q (after (any_number r) line_end) refl (count_run cycle_count r m out q.stage q.begun q.number x)
+opens input out i r e (runs_on s m a h q x) = counts input out i r s m e a h q (after (any_number r) line_end) refl (count_run cycle_count r m out q.stage q.number x)
 
 pub shown : (input out : List ℕ) → length input < 18_446_744_073_709_551_615 → Prints input out → Shown input out
 shown input out h x = go (opening input out h x)

@@ -1,5 +1,6 @@
 -- What the stages of a run come to, case by case. Assumes nothing.
-use mathlib.Core.Path.{◌≡◌, sym, ap, ◌∙◌, subst}
+use mathlib.Core.Logic.{◌⊎◌, inl, inr}
+use mathlib.Core.Path.{◌≡◌, refl, sym, ap, ◌∙◌, subst}
 use mathlib.Core.Bool.{Bool, true, false, false≢true}
 use mathlib.Core.List.{List}
 use Prim.Native.Nat.{ℕ, ◌≤◌, ◌<◌, min}
@@ -9,7 +10,7 @@ use Rattle.language.specs.Reading.{Answer, refused, Reads}
 use Rattle.language.specs.declared.Text.{Text}
 use Rattle.language.specs.declared.Text.TheVariants.{Actor as InActor}
 use Rattle.figures.specs.declared.Stage.{Stage}
-use Rattle.figures.specs.declared.Stage.TheVariants.{Actor, BindingsCount, Bindings, Line, Through, Stopped}
+use Rattle.figures.specs.declared.Stage.TheVariants.{ActorCount, Actor, BindingsCount, Bindings, CycleCount, Line, Through, Wrong, Stopped}
 use Rattle.figures.specs.declared.State.{State}
 use Rattle.figures.specs.States.{start_of}
 use Rattle.tipirun.specs.Reading.{planned_of, judged_of, Judged}
@@ -91,6 +92,18 @@ over_read s r a b p p' h e j =
       stands = j.stands ∙ over_bindings j.what s p h e;
       table = j.table ∙ over_plan j.what s p h e;
     }
+
+-- at a stage that stays as it is
+pub rested : (s : State) (a b p : List ℕ) → s.left ≤ 0
+    → (s.stage ≡ ActorCount) ⊎ ((s.stage ≡ BindingsCount) ⊎ ((s.stage ≡ CycleCount) ⊎ ((s.stage ≡ Through) ⊎ ((s.stage ≡ Wrong) ⊎ ((n : ℕ) × (m : ℕ) × (s.stage ≡ Stopped n m))))))
+    → StagePassed s a b p s p
+unfolding passed_at
+rested s a b p h (inl e) = unread s s a b p ActorCount h e refl (over_same some_answer s p ActorCount h e refl)
+rested s a b p h (inr (inl e)) = unread s s a b p BindingsCount h e refl (over_same some_answer s p BindingsCount h e refl)
+rested s a b p h (inr (inr (inl e))) = unread s s a b p CycleCount h e refl (over_same some_answer s p CycleCount h e refl)
+rested s a b p h (inr (inr (inr (inl e)))) = unread s s a b p Through h e refl (over_same some_answer s p Through h e refl)
+rested s a b p h (inr (inr (inr (inr (inl e))))) = unread s s a b p Wrong h e refl (over_same some_answer s p Wrong h e refl)
+rested s a b p h (inr (inr (inr (inr (inr (n, m, e)))))) = unread s s a b p (Stopped n m) h e refl (over_same some_answer s p (Stopped n m) h e refl)
 
 -- what the two texts are told as
 pub told : (a b p p' : List ℕ) (s r : State) (y : Told) (k m : ℕ) → k ≡ min s.actor (length a) → m ≡ min s.bindings (length b) → Read (take k a) (take m b) y p p' → r ≡ judged_of y s

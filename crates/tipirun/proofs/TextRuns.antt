@@ -1,6 +1,7 @@
 -- A text after its count, as document 01 has it and as the machine meets it: byte by byte, as far as its table goes. Assumes nothing.
 use mathlib.Core.Path.{◌≡◌, refl, sym, ap, ap₂, ◌∙◌, subst}
 use mathlib.Core.Bool.{Bool, true, false}
+use Rattle.std.specs.Prelude.{None}
 use mathlib.Core.List.{List, [], ◌∷◌, ◌++◌, append_assoc, append-nil}
 use Prim.Native.Nat.{ℕ, zero, suc, ◌+◌, ◌-◌, ◌^◌, ◌≤◌, ◌<◌, min}
 use native.Mathlib.Omega.{arith}
@@ -188,6 +189,6 @@ module _ {g : Stage} {table : Machine → List ℕ} {count : State → ℕ} (k :
     by_number (got n []) q x = x
     by_number (got n (b ∷ r)) q x = newline (eqb 10 b) n b r (omega arith) x
 
-    pub counted_run : (bs : List ℕ) → m.state.stage ≡ g₀ → m.state.begun ≡ false → m.state.number ≡ 0 → length bs < 18_446_744_073_709_551_615 → From m bs out → Texted out (counted bs)
+    pub counted_run : (bs : List ℕ) → m.state.stage ≡ g₀ → m.state.number ≡ None → length bs < 18_446_744_073_709_551_615 → From m bs out → Texted out (counted bs)
     unfolding counted any_number
-    counted_run bs e f i q x = by_number (any_number bs) (let a = number_length bs (10 ^ length bs) in omega arith) (count_run c bs m out e f i x)
+    counted_run bs e i q x = by_number (any_number bs) (let a = number_length bs (10 ^ length bs) in omega arith) (count_run c bs m out e i x)

@@ -66,7 +66,6 @@ first_stands : (s : Setting) (a : Agrees s) (m : Machine) (n : ℕ) → length (
 first_stands s a m n h r =
     record {
       stage = refl;
-      begun = refl;
       number = refl;
       port = refl;
       plan = ap₂ take r.long r.plan ∙ plan_stands s r.before (let q = r.room in omega arith);

@@ -1,5 +1,5 @@
 -- Numbers and texts as they are read, byte by byte. Assumes nothing: these are definitions.
-use Rattle.std.specs.Prelude.{◌≡◌, false, List, ℕ}
+use Rattle.std.specs.Prelude.{◌≡◌, None, List, ℕ}
 use Rattle.language.specs.Reading as Reading
 use Rattle.language.specs.Reading.{Reads}
 use Rattle.tipi.specs.Told.{answer_of, table_after}
@@ -12,7 +12,7 @@ use Rattle.figures.specs.States.{start_of}
 -- ---- what reading makes of the texts
 
 abbrev pub planned_of : State → ℕ → State
-planned_of s n = record { stage = CycleCount; number = 0; begun = false; left = 0; port = 0; mask = 0; actor = s.actor; bindings = s.bindings; plan = n; at = s.at }
+planned_of s n = record { stage = CycleCount; number = None; left = 0; port = 0; mask = 0; actor = s.actor; bindings = s.bindings; plan = n; at = s.at }
 
 unfoldable pub judged_of : Answer → State → State
 judged_of (Plan n) s = planned_of s n

@@ -1,59 +1,30 @@
 // One byte, and a run of bytes.
-ghost use Rattle.std.specs.Prelude.{[], ◌+◌, ◌*◌, length};
+ghost use Rattle.std.specs.Prelude.{◌+◌, ◌*◌, ◌≤◌, length};
 ghost use Rattle.cycle_line.specs.Shown.{line_bytes};
-ghost use Rattle.input_bytes.specs.Lines.{Roomy};
-ghost use Rattle.input_bytes.specs.Bytes.{machine};
+ghost use Rattle.input_bytes.specs.Bytes.{machine_of};
 ghost use Rattle.tipirun.specs.Machine.{Steps, Feeds};
 
 use crate::texts::passed;
 use figures::State;
-use input_bytes::moved;
+use input_bytes::{Tables, moved};
 
 // One byte.
-pub fn step(
-    s: State,
-    b: u8,
-    actor: &mut [u8],
-    bindings: &mut [u8],
-    plan: &mut [u32],
-    values: &mut [u64],
-    outputs: &mut [u64],
-    memory: &mut [u64],
-    out: &mut [u8],
-) -> State
-    requires { Roomy values.old outputs.old memory.old out.old s.at }
-    ensures { let before = machine s actor.old bindings.old plan.old values.old outputs.old memory.old [] in
-        let after = machine result actor.new bindings.new plan.new values.new outputs.new memory.new [] in
-        Steps before b out.old after out.new }
+pub fn step(s: State, b: u8, tables: &mut Tables) -> State
+    requires { s.at + line_bytes ≤ length tables.old.out }
+    ensures { Steps (machine_of s tables.old) b tables.old.out (machine_of result tables.new) tables.new.out }
 {
-    let t = moved(s, b, actor, bindings, plan, values, outputs, memory, out);
-    passed(t, actor, bindings, plan)
+    let t = moved(s, b, tables);
+    passed(t, &tables.actor, &tables.bindings, &mut tables.plan)
 }
 
 // Some bytes.
-pub fn feed(
-    s: State,
-    bytes: &[u8],
-    actor: &mut [u8],
-    bindings: &mut [u8],
-    plan: &mut [u32],
-    values: &mut [u64],
-    outputs: &mut [u64],
-    memory: &mut [u64],
-    out: &mut [u8],
-) -> State
-    requires { Roomy values.old outputs.old memory.old out.old (s.at + line_bytes * length bytes.now) }
-    ensures { let before = machine s actor.old bindings.old plan.old values.old outputs.old memory.old [] in
-        let after = machine result actor.new bindings.new plan.new values.new outputs.new memory.new [] in
-        Feeds before bytes.now out.old after out.new }
+pub fn feed(s: State, bytes: &[u8], tables: &mut Tables) -> State
+    requires { s.at + line_bytes * length bytes.now ≤ length tables.old.out }
+    ensures { Feeds (machine_of s tables.old) bytes.now tables.old.out (machine_of result tables.new) tables.new.out }
 {
     let mut t = s;
-    let mut i = 0;
-    while i < bytes.len() {
-        t = step(
-            t, bytes[i], actor, bindings, plan, values, outputs, memory, out,
-        );
-        i += 1;
+    for b in bytes {
+        t = step(t, *b, tables);
     }
     t
 }

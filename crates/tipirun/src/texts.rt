@@ -3,22 +3,19 @@ ghost use Rattle.std.specs.Prelude.{◌≡◌, take};
 ghost use Rattle.tipirun.specs.Reading.{planned_of, Judged};
 ghost use Rattle.tipirun.specs.Machine.{StagePassed};
 
-use figures::{Stage, State, at_stage, least};
+use figures::{Stage, State};
 
 fn planned(s: State, n: u32) -> State
     ensures { result ≡ planned_of s n }
 {
     State {
         stage: Stage::CycleCount,
-        number: 0,
-        begun: false,
+        number: None,
         left: 0,
         port: 0,
         mask: 0,
-        actor: s.actor,
-        bindings: s.bindings,
         plan: n as usize,
-        at: s.at,
+        ..s
     }
 }
 
@@ -26,11 +23,11 @@ fn planned(s: State, n: u32) -> State
 fn judged(s: State, actor: &[u8], bindings: &[u8], plan: &mut [u32]) -> State
     ensures { Judged (take s.actor actor.now) (take s.bindings bindings.now) s plan.old result plan.new }
 {
-    let k = least(s.actor, actor.len());
-    let m = least(s.bindings, bindings.len());
+    let k = s.actor.min(actor.len());
+    let m = s.bindings.min(bindings.len());
     match tipi::read(&actor[..k], &bindings[..m], plan) {
         tipi::Answer::Plan(n) => planned(s, n),
-        tipi::Answer::Refused(row, _, place) => at_stage(s, Stage::Stopped(row, place), 0),
+        tipi::Answer::Refused(row, _, place) => s.at_stage(Stage::Stopped(row, place), 0),
     }
 }
 
@@ -41,16 +38,15 @@ pub fn passed(s: State, actor: &[u8], bindings: &[u8], plan: &mut [u32]) -> Stat
     if 0 < s.left {
         return s;
     }
-    let stage = s.stage;
-    match stage {
-        Stage::Actor => at_stage(s, Stage::BindingsCount, 0),
+    match s.stage {
+        Stage::Actor => s.at_stage(Stage::BindingsCount, 0),
         Stage::Bindings => judged(s, actor, bindings, plan),
-        Stage::Line => at_stage(s, Stage::Through, 0),
-        Stage::ActorCount => s,
-        Stage::BindingsCount => s,
-        Stage::CycleCount => s,
-        Stage::Through => s,
-        Stage::Wrong => s,
-        Stage::Stopped(_, _) => s,
+        Stage::Line => s.at_stage(Stage::Through, 0),
+        Stage::ActorCount
+        | Stage::BindingsCount
+        | Stage::CycleCount
+        | Stage::Through
+        | Stage::Wrong
+        | Stage::Stopped(_, _) => s,
     }
 }

@@ -5,14 +5,8 @@ use lib.Seq.{length-take-le}
 use Rattle.tipirun.proofs.Stages.{told, told_plan, told_refused}
 use Rattle.tipirun.proofs.texts.judged.Goals as goal
 
-pub slice_bounds-read-end : goal.slice_bounds-read-end
-slice_bounds-read-end c = sym (length-take-le _ _ (omega (arith, c.least-k.ensures)))
-
-pub slice_bounds-read-end-2 : goal.slice_bounds-read-end-2
-slice_bounds-read-end-2 c = sym (length-take-le _ _ (omega (arith, c.least-m.ensures)))
-
 pub returns-in-Plan : goal.returns-in-Plan
-returns-in-Plan c = told _ _ _ _ _ _ _ _ _ c.least-k.ensures c.least-m.ensures c.read.ensures (told_plan _ _ _ _ c.in-Plan.is c.planned.ensures)
+returns-in-Plan c = told _ _ _ _ _ _ _ _ _ c.min-k.ensures c.min-m.ensures c.read.ensures (told_plan _ _ _ _ c.in-Plan.is c.planned.ensures)
 
 pub returns-in-Refused : goal.returns-in-Refused
-returns-in-Refused c = told _ _ _ _ _ _ _ _ _ c.least-k.ensures c.least-m.ensures c.read.ensures (told_refused _ _ _ _ _ _ c.in-Refused.is c.at_stage.ensures)
+returns-in-Refused c = told _ _ _ _ _ _ _ _ _ c.min-k.ensures c.min-m.ensures c.read.ensures (told_refused _ _ _ _ _ _ c.in-Refused.is c.at_stage.ensures)
