@@ -4,6 +4,9 @@
 #![tactic(auto)]
 
 ghost use Rattle.std.specs.Prelude.{◌≡◌, List, ℕ, ◌+◌, ◌*◌, ◌-◌, ◌/◌, ◌≤◌, ◌<◌, length, take, drop};
+ghost use Rattle.std.specs.Prelude.{min, map};
+ghost use Rattle.std.specs.List.{reduce, filter, range_with_len};
+ghost use Rattle.tape.specs.Walk.{place_at};
 ghost use Rattle.language.specs.Text.{earliest};
 ghost use Rattle.language.specs.Words.{Word};
 ghost use Rattle.language.specs.Tree.{Actor};
@@ -212,16 +215,21 @@ fn at_fault(tape: &[u32], n: usize, i: usize) -> bool
     }
 }
 
+// The earliest place of an item that breaks a rule.
+fn walk(tape: &[u32], n: usize) -> Option<u32>
+    requires { n ≤ length tape.now }
+    ensures { result ≡ reduce min (map (place_at tape.now) (filter (faulty tape.now n) (range_with_len 0 (n / 3)))) }
+{
+    (0..n / 3)
+        .filter(|&i| at_fault(tape, n, i))
+        .map(|i| tape[3 * i + 1])
+        .min()
+}
+
 // The earliest place of row 8, where the tape holds the actor of a text.
 pub fn fault(tape: &[u32], n: usize) -> Option<u32>
     requires { n ≤ length tape.now }
     ensures { (text : List ℕ) (ws : List Word) (a : Actor) → Tells text tape.now n ws a → result ≡ place_told (earliest (each type_faults (types (actor_items a)))) }
 {
-    let mut first = None;
-    for i in 0..n / 3 {
-        if at_fault(tape, n, i) {
-            first = words::earlier(tape[3 * i + 1], first);
-        }
-    }
-    first
+    walk(tape, n)
 }

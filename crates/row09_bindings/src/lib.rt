@@ -3,14 +3,15 @@
 // port or no environment name of the actor, and the earliest name of the actor that has neither a type nor a binding.
 #![tactic(auto)]
 
-ghost use Rattle.std.specs.Prelude.{◌≡◌, ◌+◌, ◌-◌, ◌*◌, ◌≤◌, ◌<◌, length};
-ghost use Rattle.language.specs.Text.{index, earliest};
+ghost use Rattle.std.specs.Prelude.{◌≡◌, ◌+◌, ◌-◌, ◌*◌, ◌≤◌, ◌<◌, length, min, map};
+ghost use Rattle.std.specs.List.{reduce, filter, range_with_len};
+ghost use Rattle.language.specs.Text.{index};
 ghost use Rattle.language.specs.Widths.{strangers as strangers_of, unsettled as unsettled_of};
-ghost use Rattle.words.specs.Found.{place_told};
 ghost use Rattle.placed.specs.Placed.{name_from};
+ghost use Rattle.tape.specs.Walk.{place_at};
 ghost use Rattle.bindings.specs.Table.{Lined};
 ghost use Rattle.row09_bindings.specs.Lines.{name_on, names_on};
-ghost use Rattle.row09_bindings.specs.Walk.{no_type, open_at, opens_at};
+ghost use Rattle.row09_bindings.specs.Walk.{no_type, open_at};
 ghost use Rattle.row09_bindings.specs.Told.{StrangeTold, FaultsTold};
 
 use bindings::Lines;
@@ -143,15 +144,12 @@ fn walk(
     lines: Lines,
 ) -> Option<u32>
     requires { (3 * many ≤ length tape.now) × Lined lines table.now }
-    ensures { result ≡ place_told (earliest (opens_at text.now tape.now btext.now table.now lines many)) }
+    ensures { result ≡ reduce min (map (place_at tape.now) (filter (open_at text.now tape.now btext.now table.now lines) (range_with_len 0 many))) }
 {
-    let mut first = None;
-    for i in 0..many {
-        if open_at(text, tape, btext, table, lines, i) {
-            first = words::earlier(tape[3 * i + 1], first);
-        }
-    }
-    first
+    (0..many)
+        .filter(|&i| open_at(text, tape, btext, table, lines, i))
+        .map(|i| tape[3 * i + 1])
+        .min()
 }
 
 // The earliest place in the actor of row 9.

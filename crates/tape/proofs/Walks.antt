@@ -1,17 +1,21 @@
 -- The names of a class on a part of the tape, item by item; the places so far. Assumes nothing.
 use mathlib.Core.Path.{◌≡◌, refl, sym, ap, ◌∙◌}
 use mathlib.Core.Bool.{Bool, true, false}
-use mathlib.Core.List.{List, [], ◌∷◌, ◌++◌}
+use mathlib.Core.List.{List, [], ◌∷◌, ◌++◌, append-nil}
+use Rattle.std.proofs.lemmas.List.Elements.{filter-append}
+use Rattle.std.proofs.lemmas.List.{map-append, map-id}
+use Rattle.std.proofs.lemmas.List.FromFn.{map-range_with_len_more}
 use mathlib.Core.Option.{Option, none, some}
 use mathlib.Core.Logic.{⊎_elim}
 use native.Mathlib.Numerals.{add-one}
-use Prim.Native.Nat.{ℕ, suc, ◌+◌, ◌-◌, ◌≤◌, ◌<◌}
+use Prim.Native.Nat.{ℕ, zero, suc, min, ◌+◌, ◌-◌, ◌≤◌, ◌<◌}
 use native.Mathlib.Omega.{arith}
 use borrow.Author.Tests.{eq-eqb, ne_eqb}
 use Rattle.language.specs.Text.{same, among, earliest}
 use Rattle.words.specs.Found.{place_told, earlier_of}
 use Rattle.words.specs.Found.{Place}
-use Rattle.std.specs.Prelude.{None}
+use Rattle.std.specs.Prelude.{Some, None, cond, map}
+use Rattle.std.specs.List.{reduce, filter, range_with_len}
 use Rattle.placed.proofs.Members.{member_append, member_left, member_right}
 use Rattle.placed.proofs.Earliest.{earliest_same}
 use Rattle.placed.specs.Placed.{name_from}
@@ -84,3 +88,44 @@ after_same o t i n e = rw (add-one i) (e ∙ sym (simp (after, pick, ne_eqb _ _ 
 pub after_start : (o : ℕ) (t : List ℕ) → 0 ≡ after o t 0
 unfolding after
 after_start o t = refl
+
+-- ---- the places as a chain of iterators
+
+range_more : (n : ℕ) → range_with_len 0 (suc n) ≡ range_with_len 0 n ++ (n ∷ [])
+range_more n =
+    ap (range_with_len 0) (sym (add-one n)) ∙ sym (map-id (range_with_len 0 (n + 1))) ∙ map-range_with_len_more (λ (x : ℕ). x) 0 n n (omega arith)
+    ∙ ap (λ (l : List ℕ). l ++ (n ∷ [])) (map-id (range_with_len 0 n))
+
+marked_law : (f : ℕ → Bool) (t : List ℕ) (n : ℕ) → marked f t n ≡ map (place_at t) (filter f (range_with_len 0 n))
+unfolding marked put
+marked_law f t zero = refl
+marked_law f t (suc n) =
+    ap (put (f n) (place_at t n)) (marked_law f t n) ∙ go (f n) refl
+    ∙ sym (ap (λ (l : List ℕ). map (place_at t) (filter f l)) (range_more n) ∙ ap (map (place_at t)) (filter-append f (range_with_len 0 n) (n ∷ [])) ∙ map-append (place_at t) (filter f (range_with_len 0 n)) (filter f (n ∷ [])))
+  where
+    this : (b : Bool) → f n ≡ b → filter f (n ∷ []) ≡ cond b (n ∷ []) []
+    this true e = simp (filter, e)
+    this false e = simp (filter, e)
+
+    before : List ℕ
+    before = map (place_at t) (filter f (range_with_len 0 n))
+
+    go : (b : Bool) → f n ≡ b → put b (place_at t n) before ≡ before ++ map (place_at t) (filter f (n ∷ []))
+    go true e = rw (this true e) refl
+    go false e = rw (this false e) (sym (append-nil before))
+
+min_told : (l : List ℕ) → reduce min l ≡ place_told (earliest l)
+unfolding earliest place_told earlier_of
+min_told [] = refl
+min_told (x ∷ xs) = go x xs
+  where
+    nested : (x y : ℕ) (r : Place) → earlier_of (min x y) r ≡ earlier_of x (earlier_of y r)
+    nested x y None = refl
+    nested x y (Some q) = ap Some (omega arith)
+
+    go : (x : ℕ) (xs : List ℕ) → reduce min (x ∷ xs) ≡ place_told (earliest (x ∷ xs))
+    go x [] = refl
+    go x (y ∷ ys) = go (min x y) ys ∙ told_earlier (min x y) ys ∙ nested x y _ ∙ sym (told_earlier x (y ∷ ys) ∙ ap (earlier_of x) (told_earlier y ys))
+
+pub earliest_marked : (f : ℕ → Bool) (t : List ℕ) (n : ℕ) → reduce min (map (place_at t) (filter f (range_with_len 0 n))) ≡ place_told (earliest (marked f t n))
+earliest_marked f t n = min_told _ ∙ sym (ap (λ (l : List ℕ). place_told (earliest l)) (marked_law f t n))
