@@ -3,11 +3,10 @@ use Rattle.std.specs.Prelude.{Option as Optional, Some, None, ◌≡◌, Bool, �
 use Rattle.tape.specs.Tape as Tape
 use Rattle.tape.specs.declared.Class.{Class}
 use Rattle.tape.specs.Walk.{op_at, place_at, value_at, between}
-use Rattle.bindings.specs.Table.{Lined}
 use Rattle.bindings.specs.declared.Lines.{Lines}
 use Rattle.type_value.specs.Walk.{part}
 use Rattle.settled.specs.Form.{START, six}
-use Rattle.item_writes.specs.declared.Counts.{Counts}
+use Rattle.item_writes.specs.declared.given.Given.{Given}
 use Rattle.item_writes.specs.declared.Waits.{Waits}
 use Rattle.item_writes.specs.declared.Far.{Far}
 use Rattle.item_writes.specs.declared.Grows.{Grows}
@@ -74,8 +73,8 @@ plain_out o p v =
     (when (eqb o Tape.INSIDE || eqb o Tape.DEFAULT) (six START p 0 0 0 0) (six o p v 0 0 0))
 
 -- what is looked up by a text, a tape and widths, whatever the bindings and the state
-pub record Looked (text t : List ℕ) (many : ℕ) (ws : List ℕ) {A : Type 0} (r : A) (f : Around → State → A) : Type 0 where
-  pub is : (btext table : List ℕ) (lines : Lines) (s : State) → r ≡ f (around_of text t many btext table lines ws) s
+pub record Looked (g : Given) {A : Type 0} (r : A) (f : Around → State → A) : Type 0 where
+  pub is : (btext table : List ℕ) (lines : Lines) (s : State) → r ≡ f (around_of g.text.now g.tape.now g.many.items btext table lines g.widths.now) s
 
 -- an item that names nothing
 pub record Unnamed (o : ℕ) : Type 0 where
@@ -127,36 +126,36 @@ pub record Bounded (starts : List ℕ) (i : ℕ) (far : Far) : Type 0 where
 
 -- ---- the promises of one item, by the tables that it is lent
 
--- what is around the items of a tape, and the settled items on it, by their counts
-abbrev pub around_in : (text t btext table ws : List ℕ) → Counts → Around
-around_in text t btext table ws many = around_of text t many.items btext table many.lines ws
+-- what is around the items of the tape that is given, and the settled items on it
+abbrev pub around_in : Given → Around
+around_in g = around_of g.text.now g.tape.now g.many.items g.btext.now g.table.now g.many.lines g.widths.now
 
-abbrev pub settled_in : (text t btext table ws : List ℕ) → Counts → List ℕ
-settled_in text t btext table ws many = settled_on text t many.items btext table many.lines ws
+abbrev pub settled_in : Given → List ℕ
+settled_in g = settled_on g.text.now g.tape.now g.many.items g.btext.now g.table.now g.many.lines g.widths.now
 
--- the tables hold the items and lines that the counts say, and the state before item i
-abbrev pub Lent : (t table code starts : List ℕ) → Counts → ℕ → Far → Type 0
-Lent t table code starts many i far =
-    (3 * many.items ≤ length t) × (many.items ≤ Tape.most_items) × (i < many.items) × Lined many.lines table × (i ≤ length code) × (i ≤ length starts) × Bounded starts i far
+-- item i is one of those given, and the tables hold the state before it
+abbrev pub Lent : Given → (code starts : List ℕ) → ℕ → Far → Type 0
+Lent g code starts i far = (i < g.many.items) × (i ≤ length code) × (i ≤ length starts) × Bounded starts i far
 
 -- the same, with room for what item i does
-abbrev pub Roomy : (t table code starts out : List ℕ) → Counts → ℕ → Far → Type 0
-Roomy t table code starts out many i far =
-    (3 * many.items ≤ length t) × (many.items ≤ Tape.most_items) × (i < many.items) × Lined many.lines table × (length code ≡ Tape.most_items) × (length starts ≡ Tape.most_items) × (6 * i + 6 ≤ length out) × Bounded starts i far
+abbrev pub Roomy : Given → (code starts out : List ℕ) → ℕ → Far → Type 0
+Roomy g code starts out i far =
+    (i < g.many.items) × (length code ≡ Tape.most_items) × (length starts ≡ Tape.most_items) × (6 * i + 6 ≤ length out) × Bounded starts i far
 
 -- what item i does to the types that wait, whatever the widths
-abbrev pub Grown : Grows → (text t btext table : List ℕ) → Counts → ℕ → Type 0
-Grown g text t btext table many i = (ws : List ℕ) (l : List (List ℕ)) → grown_by g l ≡ grown (around_in text t btext table ws many) (op_at t i) (place_at t i) (value_at t i) l
+abbrev pub Grown : Grows → Given → ℕ → Type 0
+Grown r g i = (ws : List ℕ) (l : List (List ℕ)) → grown_by r l ≡ grown (around_of g.text.now g.tape.now g.many.items g.btext.now g.table.now g.many.lines ws) (op_at g.tape.now i) (place_at g.tape.now i) (value_at g.tape.now i) l
 
 -- what item i writes, whatever was written before
-abbrev pub Writes : Written → (text t btext table ws code starts : List ℕ) → Counts → ℕ → Far → Type 0
-Writes w text t btext table ws code starts many i far =
-    (out : List ℕ) → numbers_of w ≡ written (around_in text t btext table ws many) (state_of text t code starts out i far) (op_at t i) (place_at t i) (value_at t i)
+abbrev pub Writes : Written → Given → (code starts : List ℕ) → ℕ → Far → Type 0
+Writes w g code starts i far =
+    (out : List ℕ) → numbers_of w ≡ written (around_in g) (state_of g.text.now g.tape.now code starts out i far) (op_at g.tape.now i) (place_at g.tape.now i) (value_at g.tape.now i)
 
 -- what is written of a name that is read at item i, whatever the bindings
-abbrev pub Reads : Written → (text t : List ℕ) → (many i p : ℕ) → List ℕ → (lets vals : ℕ) → Type 0
-Reads w text t many i p ws lets vals =
-    (btext table : List ℕ) (lines : Lines) (s : State) → s.lets ≡ between text t Class.Val lets i → s.vals ≡ vals → numbers_of w ≡ read_out (around_of text t many btext table lines ws) s p
+abbrev pub Reads : Written → Given → (i p lets vals : ℕ) → Type 0
+Reads w g i p lets vals =
+    (btext table : List ℕ) (lines : Lines) (s : State) → s.lets ≡ between g.text.now g.tape.now Class.Val lets i → s.vals ≡ vals
+    → numbers_of w ≡ read_out (around_of g.text.now g.tape.now g.many.items btext table lines g.widths.now) s p
 
 -- what is written of an item that names nothing, by the types that wait
 abbrev pub WritesTyped : Written → (o p v : ℕ) → (code starts ws : List ℕ) → Waits → ℕ → Type 0

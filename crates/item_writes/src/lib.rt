@@ -3,10 +3,12 @@
 // tables. What goes out: nothing or six numbers; the types that wait after it.
 #![tactic(auto)]
 
+mod given;
 mod nodes;
 pub mod writes;
 
 use bindings::Lines;
+pub use given::Given;
 pub use nodes::{grow, growth, without};
 
 // How many items the tape has, and how many lines the bindings.

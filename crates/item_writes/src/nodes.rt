@@ -9,7 +9,7 @@ ghost use Rattle.looked_up.specs.Lookup.{operand};
 ghost use Rattle.item_writes.specs.Walk.{leaf as leaf_of, without as without_of, latest as latest_of};
 ghost use Rattle.item_writes.specs.Tables.{Ordered, waits_in, begins_at, Left, Grew, Grown};
 
-use crate::{Counts, Grows, Waits};
+use crate::{Given, Grows, Waits};
 use looked_up::{narrow, numbered, value};
 use tape::{CEIL, ENTRY, ENVIRONMENT, FLOOR, LOG, MINUS, NUMBER, PLUS, PORT, SIGNED, wide};
 
@@ -22,25 +22,27 @@ fn leaf(k: usize) -> u32
 }
 
 // What an item does to the types that wait.
-pub fn growth(
-    text: &[u8],
-    tape: &[u32],
-    btext: &[u8],
-    table: &[u32],
-    many: Counts,
-    i: usize,
-) -> Grows
-    requires { (3 * many.items ≤ length tape.now) × (many.items ≤ most_items) × (i < many.items) × Lined many.lines table.now }
-    ensures { Grown result text.now tape.now btext.now table.now many i }
+pub fn growth(given: Given, i: usize) -> Grows
+    requires { i < given.many.items }
+    ensures { Grown result given.entry i }
 {
+    let tape = given.tape;
     let place = tape[3 * i + 1];
     match tape[3 * i] {
         NUMBER => Grows::Leaf(leaf(wide(tape[3 * i + 2]) * 8)),
         ENVIRONMENT => {
-            let x = value(text, wide(place), btext, table, many.lines);
+            let x = value(
+                given.text,
+                wide(place),
+                given.btext,
+                given.table,
+                given.many.lines,
+            );
             Grows::Leaf(leaf(wide(x) * 8))
         }
-        PORT => Grows::Leaf(leaf(numbered(text, tape, many.items, SIGNED, place) * 8 + 1)),
+        PORT => Grows::Leaf(leaf(
+            numbered(given.text, tape, given.many.items, SIGNED, place) * 8 + 1,
+        )),
         LOG => Grows::End(2),
         FLOOR => Grows::End(3),
         CEIL => Grows::End(4),

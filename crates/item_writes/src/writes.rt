@@ -14,8 +14,7 @@ ghost use Rattle.item_writes.specs.Walk.{port_out, memory_width_out, cell_out, s
 ghost use Rattle.item_writes.specs.Tables.{Ordered, numbers_of, silent as silent_of, plain_out, Looked, Lent, Writes, Reads, WritesTyped};
 
 use crate::nodes::{position, width, without};
-use crate::{Counts, Far, Waits};
-use bindings::Lines;
+use crate::{Far, Given, Waits};
 use looked_up::{cells_before, count, latest, narrow, numbered, size_of, value, width_of};
 use tape::{
     ACTOR, ASSIGN, BIT, BITS, CELL, Class, DECLARED, DEFAULT, END, GIVEN, GROUPED, INSIDE, LET,
@@ -43,118 +42,107 @@ fn amount(place: u32, x: Option<u64>) -> Option<[u32; 6]>
 }
 
 // The value of an environment name.
-fn bound(text: &[u8], place: u32, btext: &[u8], table: &[u32], lines: Lines) -> Option<[u32; 6]>
-    requires { Lined lines table.now }
-    ensures { numbers_of result ≡ amount_numbers place (value_in (lines_on btext.now table.now lines.widths lines.values) (name_from text.now place)) }
+fn bound(given: Given, place: u32) -> Option<[u32; 6]>
+    ensures { numbers_of result ≡ amount_numbers place (value_in (lines_on given.entry.btext.now given.entry.table.now given.entry.many.lines.widths given.entry.many.lines.values) (name_from given.entry.text.now place)) }
 {
-    let x = value(text, wide(place), btext, table, lines);
+    let x = value(
+        given.text,
+        wide(place),
+        given.btext,
+        given.table,
+        given.many.lines,
+    );
     amount(place, Some(u64::from(x)))
 }
 
 // A port: its number and its width.
-fn port(
-    text: &[u8],
-    tape: &[u32],
-    many: usize,
-    op: u32,
-    place: u32,
-    widths: &[u32],
-) -> Option<[u32; 6]>
-    requires { 3 * many ≤ length tape.now }
-    ensures { Looked text.now tape.now many widths.now (numbers_of result) (λ a s. port_out a s op place) }
+fn port(given: Given, op: u32, place: u32) -> Option<[u32; 6]>
+    ensures { Looked given.entry (numbers_of result) (λ a s. port_out a s op place) }
 {
-    let k = numbered(text, tape, many, SIGNED, place);
-    Some([op, place, narrow(k), 0, 0, width_of(widths, k)])
+    let k = numbered(given.text, given.tape, given.many.items, SIGNED, place);
+    Some([op, place, narrow(k), 0, 0, width_of(given.widths, k)])
 }
 
 // The width of the memory whose name stands at a place: memories come after the ports.
-fn memory_width(text: &[u8], tape: &[u32], many: usize, place: u32, widths: &[u32]) -> u32
-    requires { (3 * many ≤ length tape.now) × (many ≤ most_items) }
-    ensures { Looked text.now tape.now many widths.now result (λ a s. memory_width_out a s place) }
+fn memory_width(given: Given, place: u32) -> u32
+    ensures { Looked given.entry result (λ a s. memory_width_out a s place) }
 {
-    let k = numbered(text, tape, many, SIGNED, place);
-    let ports = count(tape, many, SIGNED);
+    let k = numbered(given.text, given.tape, given.many.items, SIGNED, place);
+    let ports = count(given.tape, given.many.items, SIGNED);
     if k < ports {
-        return width_of(widths, k);
+        return width_of(given.widths, k);
     }
-    width_of(widths, ports + numbered(text, tape, many, MEMORY, place))
+    width_of(
+        given.widths,
+        ports + numbered(given.text, given.tape, given.many.items, MEMORY, place),
+    )
 }
 
 // A cell of a memory: its number, its first cell, its size and its width.
-fn cell(
-    text: &[u8],
-    tape: &[u32],
-    many: usize,
-    op: u32,
-    place: u32,
-    widths: &[u32],
-) -> Option<[u32; 6]>
-    requires { (3 * many ≤ length tape.now) × (many ≤ most_items) }
-    ensures { Looked text.now tape.now many widths.now (numbers_of result) (λ a s. cell_out a s op place) }
+fn cell(given: Given, op: u32, place: u32) -> Option<[u32; 6]>
+    ensures { Looked given.entry (numbers_of result) (λ a s. cell_out a s op place) }
 {
-    let k = numbered(text, tape, many, MEMORY, place);
-    let first = narrow(cells_before(tape, many, k));
-    let w = memory_width(text, tape, many, place, widths);
-    Some([op, place, narrow(k), first, size_of(tape, many, k), w])
+    let k = numbered(given.text, given.tape, given.many.items, MEMORY, place);
+    let first = narrow(cells_before(given.tape, given.many.items, k));
+    let w = memory_width(given, place);
+    Some([
+        op,
+        place,
+        narrow(k),
+        first,
+        size_of(given.tape, given.many.items, k),
+        w,
+    ])
 }
 
 // The latest `let` in force of a name, in its slot; where there is none, a port.
-fn read(
-    text: &[u8],
-    tape: &[u32],
-    many: usize,
-    i: usize,
-    place: u32,
-    widths: &[u32],
-    lets: usize,
-    vals: usize,
-) -> Option<[u32; 6]>
-    requires { (3 * many ≤ length tape.now) × (lets ≤ i) × (i < many) }
-    ensures { Reads result text.now tape.now many i place widths.now lets vals }
+fn read(given: Given, i: usize, place: u32, lets: usize, vals: usize) -> Option<[u32; 6]>
+    requires { (lets ≤ i) × (i < given.many.items) }
+    ensures { Reads result given.entry i place lets vals }
 {
-    let called = name(text, wide(place));
-    if said(text, tape, lets, i, Class::Val, called) {
-        let k = latest(text, tape, lets, i, called);
+    let called = name(given.text, wide(place));
+    if said(given.text, given.tape, lets, i, Class::Val, called) {
+        let k = latest(given.text, given.tape, lets, i, called);
         let slot = vals.saturating_sub(k).saturating_sub(1);
         return Some([settled::HELD, place, narrow(slot), 0, 0, 0]);
     }
-    port(text, tape, many, settled::READ, place, widths)
+    port(given, settled::READ, place)
 }
 
 // A port as the plan has it: its width, plus 256 for an output.
-fn signed(text: &[u8], tape: &[u32], many: usize, place: u32, widths: &[u32]) -> Option<[u32; 6]>
-    requires { 3 * many ≤ length tape.now }
-    ensures { Looked text.now tape.now many widths.now (numbers_of result) (λ a s. signed_out a s place) }
+fn signed(given: Given, place: u32) -> Option<[u32; 6]>
+    ensures { Looked given.entry (numbers_of result) (λ a s. signed_out a s place) }
 {
-    let w = width_of(widths, numbered(text, tape, many, SIGNED, place));
-    if said(text, tape, 0, many, Class::Input, name(text, wide(place))) {
+    let w = width_of(
+        given.widths,
+        numbered(given.text, given.tape, given.many.items, SIGNED, place),
+    );
+    if said(
+        given.text,
+        given.tape,
+        0,
+        given.many.items,
+        Class::Input,
+        name(given.text, wide(place)),
+    ) {
         return Some([settled::SIGNED, place, w, 0, 0, 0]);
     }
     Some([settled::SIGNED, place, narrow(wide(w) + OUTPUT), 0, 0, 0])
 }
 
 // An entry of a rule's list: its port, and whether it is to be present.
-fn entry(text: &[u8], tape: &[u32], many: usize, place: u32, value: u32) -> Option<[u32; 6]>
-    requires { 3 * many ≤ length tape.now }
-    ensures { numbers_of result ≡ six PRESENT place (operand (index (named text.now tape.now SIGNED 0 many) (name_from text.now place))) value 0 0 }
+fn entry(given: Given, place: u32, value: u32) -> Option<[u32; 6]>
+    ensures { numbers_of result ≡ six PRESENT place (operand (index (named given.entry.text.now given.entry.tape.now SIGNED 0 given.entry.many.items) (name_from given.entry.text.now place))) value 0 0 }
 {
-    let port = narrow(numbered(text, tape, many, SIGNED, place));
+    let port = narrow(numbered(given.text, given.tape, given.many.items, SIGNED, place));
     Some([settled::PRESENT, place, port, value, 0, 0])
 }
 
 // A memory: its width and its size.
-fn memory(
-    text: &[u8],
-    tape: &[u32],
-    many: usize,
-    place: u32,
-    widths: &[u32],
-    size: u32,
-) -> Option<[u32; 6]>
-    requires { (3 * many ≤ length tape.now) × (many ≤ most_items) }
-    ensures { Looked text.now tape.now many widths.now (numbers_of result) (λ a s. six MEMORY place (memory_width_out a s place) size 0 0) }
+fn memory(given: Given, place: u32, size: u32) -> Option<[u32; 6]>
+    ensures { Looked given.entry (numbers_of result) (λ a s. six MEMORY place (memory_width_out a s place) size 0 0) }
 {
-    let w = memory_width(text, tape, many, place, widths);
+    let w = memory_width(given, place);
     Some([settled::MEMORY, place, w, size, 0, 0])
 }
 
@@ -225,35 +213,23 @@ fn typed(
 }
 
 // What item i writes.
-pub fn written(
-    text: &[u8],
-    tape: &[u32],
-    btext: &[u8],
-    table: &[u32],
-    widths: &[u32],
-    many: Counts,
-    i: usize,
-    code: &[u32],
-    starts: &[usize],
-    far: Far,
-) -> Option<[u32; 6]>
-    requires { Lent tape.now table.now code.now starts.now many i far }
-    ensures { Writes result text.now tape.now btext.now table.now widths.now code.now starts.now many i far }
+pub fn written(given: Given, i: usize, code: &[u32], starts: &[usize], far: Far) -> Option<[u32; 6]>
+    requires { Lent given code.now starts.now i far }
+    ensures { Writes result given.entry code.now starts.now i far }
 {
-    let n = many.items;
-    let op = tape[3 * i];
-    let p = tape[3 * i + 1];
-    let v = tape[3 * i + 2];
+    let op = given.tape[3 * i];
+    let p = given.tape[3 * i + 1];
+    let v = given.tape[3 * i + 2];
     match op {
-        GIVEN => amount(p, sized_constants::constant(text, wide(p))),
-        VALUE => { bound(text, p, btext, table, many.lines) }
-        READ => read(text, tape, n, i, p, widths, far.lets, far.vals),
-        CELL => cell(text, tape, n, settled::CELL, p, widths),
-        WRITE => cell(text, tape, n, settled::WRITE, p, widths),
-        ASSIGN => port(text, tape, n, settled::ASSIGN, p, widths),
-        PRESENT => entry(text, tape, n, p, v),
-        MEMORY => memory(text, tape, n, p, widths, far.size),
-        SIGNED => signed(text, tape, n, p, widths),
-        _ => { typed(op, p, v, code, starts, widths, far.waits, far.vals) }
+        GIVEN => amount(p, sized_constants::constant(given.text, wide(p))),
+        VALUE => bound(given, p),
+        READ => read(given, i, p, far.lets, far.vals),
+        CELL => cell(given, settled::CELL, p),
+        WRITE => cell(given, settled::WRITE, p),
+        ASSIGN => port(given, settled::ASSIGN, p),
+        PRESENT => entry(given, p, v),
+        MEMORY => memory(given, p, far.size),
+        SIGNED => signed(given, p),
+        _ => typed(op, p, v, code, starts, given.widths, far.waits, far.vals),
     }
 }

@@ -16,8 +16,9 @@ use Rattle.tape.specs.Walk.{op_at, place_at, value_at, hit, add, names_on, betwe
 use Rattle.tape.proofs.Seens.{more}
 use Rattle.bindings.specs.declared.Lines.{Lines}
 use Rattle.item_writes.specs.declared.Far.{Far}
+use Rattle.item_writes.specs.declared.given.Given.{Given}
 use Rattle.item_writes.specs.Walk.{Around, State, when, without, takes, grown, written, step, walked, around_of}
-use Rattle.item_writes.specs.Tables.{waits_in, lets_after, vals_after, size_after, state_of, Bounded}
+use Rattle.item_writes.specs.Tables.{waits_in, lets_after, vals_after, size_after, state_of, Bounded, around_in}
 
 -- ---- bounds
 
@@ -104,10 +105,10 @@ walked_next a t i s s' e f = rw (add-one i) (f ∙ ap (λ (x : State). step a x 
 
 -- ---- the walk's tables after i items
 
-pub record Walked (text t : List ℕ) (many : ℕ) (btext table : List ℕ) (lines : Lines) (ws out₀ code starts out : List ℕ) (far : Far) (i : ℕ) : Type 0 where
+pub record Walked (g : Given) (out₀ code starts out : List ℕ) (far : Far) (i : ℕ) : Type 0 where
   pub many_nodes : length code ≡ most_items
   pub many_types : length starts ≡ most_items
   pub long : length out ≡ length out₀
   pub bounded : Bounded starts i far
   pub kept : Kept 0 far.out out₀ out
-  pub holds : state_of text t code starts out i far ≡ walked (around_of text t many btext table lines ws) t i
+  pub holds : state_of g.text.now g.tape.now code starts out i far ≡ walked (around_in g) g.tape.now i

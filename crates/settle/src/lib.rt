@@ -13,40 +13,20 @@ ghost use Rattle.item_writes.specs.Walk.{settled_on};
 ghost use Rattle.item_writes.specs.Tables.{Holds, settled_in};
 
 use bindings::Lines;
-use item_writes::Counts;
+use item_writes::{Counts, Given};
 use steps::{begin, step};
 use tape::ITEMS;
 
 // The items of the walk, put into a table: how many numbers they are.
-fn walk(
-    text: &[u8],
-    tape: &[u32],
-    btext: &[u8],
-    table: &[u32],
-    widths: &[u32],
-    many: Counts,
-    out: &mut [u32],
-) -> usize
-    requires { (3 * many.items ≤ length tape.now) × (many.items ≤ most_items) × Lined many.lines table.now × (6 * many.items ≤ length out.old) }
-    ensures { Holds (settled_in text.now tape.now btext.now table.now widths.now many) result out.old out.new }
+fn walk(given: Given, out: &mut [u32]) -> usize
+    requires { 6 * given.many.items ≤ length out.old }
+    ensures { Holds (settled_in given.entry) result out.old out.new }
 {
     let mut code = [0u32; ITEMS];
     let mut starts = [0usize; ITEMS];
     let mut far = begin();
-    for i in 0..many.items {
-        far = step(
-            text,
-            tape,
-            btext,
-            table,
-            widths,
-            many,
-            i,
-            &mut code,
-            &mut starts,
-            out,
-            far,
-        );
+    for i in 0..given.many.items {
+        far = step(given, i, &mut code, &mut starts, out, far);
     }
     far.out
 }
@@ -67,9 +47,16 @@ pub fn settled(
     ensures items { take result out.new ≡ settled_on text.now tape.now (n / 3) btext.now table.now lines widths.now }
     ensures past { drop result out.new ≡ drop result out.old }
 {
-    let many = Counts {
-        items: n / 3,
-        lines,
+    let given = Given {
+        text,
+        tape,
+        btext,
+        table,
+        widths,
+        many: Counts {
+            items: n / 3,
+            lines,
+        },
     };
-    walk(text, tape, btext, table, widths, many, out)
+    walk(given, out)
 }

@@ -7,7 +7,7 @@ ghost use Rattle.item_writes.specs.Tables.{numbers_of, beginning, lets_after, va
 
 use crate::items::takes;
 use item_writes::writes::written;
-use item_writes::{Counts, Far, Waits, grow, growth, without};
+use item_writes::{Far, Given, Waits, grow, growth, without};
 use tape::{END, MEMORY, RULED, SIZE, VAL, wide};
 
 // Before the first item.
@@ -78,29 +78,24 @@ fn size_after(op: u32, value: u32, size: u32) -> u32
 
 // Item i, in the tables.
 pub fn step(
-    text: &[u8],
-    tape: &[u32],
-    btext: &[u8],
-    table: &[u32],
-    widths: &[u32],
-    many: Counts,
+    given: Given,
     i: usize,
     code: &mut [u32],
     starts: &mut [usize],
     out: &mut [u32],
     far: Far,
 ) -> Far
-    requires { Roomy tape.now table.now code.old starts.old out.old many i far }
+    requires { Roomy given code.old starts.old out.old i far }
     ensures bounded { Bounded starts.new (i + 1) result }
     ensures kept { Kept far.out result.out out.old out.new }
-    ensures state { let a = around_in text.now tape.now btext.now table.now widths.now many in
-        let s = state_of text.now tape.now code.old starts.old out.old i far in
-        state_of text.now tape.now code.new starts.new out.new (i + 1) result ≡ turned a s tape.now i }
+    ensures state { let g = given.entry in
+        let s = state_of g.text.now g.tape.now code.old starts.old out.old i far in
+        state_of g.text.now g.tape.now code.new starts.new out.new (i + 1) result ≡ turned (around_in g) s g.tape.now i }
 {
-    let op = tape[3 * i];
-    let v = tape[3 * i + 2];
-    let w = written(text, tape, btext, table, widths, many, i, code, starts, far);
-    let g = growth(text, tape, btext, table, many, i);
+    let op = given.tape[3 * i];
+    let v = given.tape[3 * i + 2];
+    let w = written(given, i, code, starts, far);
+    let g = growth(given, i);
     let left = without(starts, far.waits, wide(takes(op, v)));
     let grown = grow(g, left, code, starts);
     Far {

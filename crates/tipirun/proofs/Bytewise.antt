@@ -11,7 +11,7 @@ use lib.Seq.{sets, drop-cons}
 use Rattle.language.specs.Reading.{Answer}
 use Rattle.tipi.specs.Told.{answer_of}
 use Rattle.plan_answer.specs.Answered.{Answer as Told}
-use Rattle.plan_answer.specs.Answered.{Plan, Refused}
+use Rattle.std.specs.Prelude.{Ok, Err}
 use Rattle.figures.specs.declared.Stage.{Stage}
 use Rattle.figures.specs.declared.Stage.TheVariants.{ActorCount, Actor, BindingsCount, Bindings, CycleCount, Line, Through, Wrong, Stopped}
 use Rattle.figures.specs.declared.State.{State}
@@ -25,8 +25,8 @@ use Rattle.input_bytes.proofs.Bytewise.{place_of}
 
 judged_keeps : (y : Told) (s : State) → (judged_of y s).at ≡ s.at
 unfolding judged_of
-judged_keeps (Plan n) s = refl
-judged_keeps (Refused r t p) s = refl
+judged_keeps (Ok n) s = refl
+judged_keeps (Err why) s = refl
 
 stage_at : (x : Answer) (g : Stage) (s : State) (l : List ℕ) → (passed_at x g s l).at ≡ s.at
 unfolding passed_at

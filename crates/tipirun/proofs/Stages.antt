@@ -16,7 +16,9 @@ use Rattle.figures.specs.States.{start_of}
 use Rattle.tipirun.specs.Reading.{planned_of, judged_of, Judged}
 use Rattle.tipi.specs.Told.{answer_of, table_after, Read}
 use Rattle.plan_answer.specs.Answered.{Answer as Told}
-use Rattle.plan_answer.specs.Answered.{Plan, Refused}
+use Rattle.plan_answer.specs.Answered.{Plan}
+use Rattle.std.specs.Prelude.{Err}
+use Rattle.language.specs.declared.Refusal.{Refusal}
 use Rattle.tipirun.specs.Machine.{passed_at, passed_of, whole, at_bindings, plan_passed, Judges, StagePassed}
 use Rattle.input_bytes.proofs.Endings.{take_least}
 
@@ -120,6 +122,6 @@ pub told_plan : (s r : State) (y : Told) (n : ℕ) → y ≡ Plan n → r ≡ pl
 unfolding judged_of
 told_plan s r y n e f = f ∙ ap (λ (z : Told). judged_of z s) (sym e)
 
-pub told_refused : (s r : State) (y : Told) (n p : ℕ) (t : Text) → y ≡ Refused n t p → r ≡ start_of s (Stopped n p) 0 → r ≡ judged_of y s
+pub told_refused : (s r : State) (y : Told) (why : Refusal) → y ≡ Err why → r ≡ start_of s (Stopped why.row why.place) 0 → r ≡ judged_of y s
 unfolding judged_of
-told_refused s r y n p t e f = f ∙ ap (λ (z : Told). judged_of z s) (sym e)
+told_refused s r y why e f = f ∙ ap (λ (z : Told). judged_of z s) (sym e)

@@ -4,7 +4,7 @@ use Rattle.language.specs.Reading as Reading
 use Rattle.language.specs.Reading.{Reads}
 use Rattle.tipi.specs.Told.{answer_of, table_after}
 use Rattle.plan_answer.specs.Answered.{Answer}
-use Rattle.plan_answer.specs.Answered.{Plan, Refused}
+use Rattle.std.specs.Prelude.{Ok, Err}
 use Rattle.figures.specs.declared.Stage.TheVariants.{CycleCount, Stopped}
 use Rattle.figures.specs.declared.State.{State}
 use Rattle.figures.specs.States.{start_of}
@@ -15,8 +15,8 @@ abbrev pub planned_of : State → ℕ → State
 planned_of s n = record { stage = CycleCount; number = None; left = 0; port = 0; mask = 0; actor = s.actor; bindings = s.bindings; plan = n; at = s.at }
 
 unfoldable pub judged_of : Answer → State → State
-judged_of (Plan n) s = planned_of s n
-judged_of (Refused r t p) s = start_of s (Stopped r p) 0
+judged_of (Ok n) s = planned_of s n
+judged_of (Err why) s = start_of s (Stopped why.row why.place) 0
 
 -- what the two texts are read as, and the state and the table of the plan after it
 pub record Judged (actor bindings : List ℕ) (s : State) (plan : List ℕ) (r : State) (after : List ℕ) : Type 0 where

@@ -26,8 +26,8 @@ fn judged(s: State, actor: &[u8], bindings: &[u8], plan: &mut [u32]) -> State
     let k = s.actor.min(actor.len());
     let m = s.bindings.min(bindings.len());
     match tipi::read(&actor[..k], &bindings[..m], plan) {
-        tipi::Answer::Plan(n) => planned(s, n),
-        tipi::Answer::Refused(row, _, place) => s.at_stage(Stage::Stopped(row, place), 0),
+        Ok(n) => planned(s, n),
+        Err(why) => s.at_stage(Stage::Stopped(why.row, why.place), 0),
     }
 }
 

@@ -27,7 +27,7 @@ pub step-far-requires : goal.step-far-requires
 step-far-requires c =
     let pre = c.requires in
     let t = c.loop-i-test.true in
-    let l = c.loop-i.invariant in (pre.0, pre.1, t, pre.2, l.many_nodes, l.many_types, omega (arith, pre.3, l.long, t), l.bounded)
+    let l = c.loop-i.invariant in (t, l.many_nodes, l.many_types, omega (arith, pre, l.long, t), l.bounded)
 
 pub loop-i-preserved : goal.loop-i-preserved
 loop-i-preserved c =
@@ -50,6 +50,6 @@ unfolding state_of
 returns c =
     let t = c in
     let l = c.loop-i.invariant in
-    let q : c.loop-i.i ≡ t.args.many.items = omega arith in
-    let e = ap (λ (s : State). s.out) (l.holds ∙ ap (walked (around_of t.args.text.now t.args.tape.now t.args.many.items t.args.btext.now t.args.table.now t.args.many.lines t.args.widths.now) t.args.tape.now) q) in
-    record { long = sym (length-take-le c.loop-i.far.out c.loop-i.out (omega (arith, l.bounded.out, q, l.long, c.requires.3))) ∙ ap length e; items = e; past = l.kept.past }
+    let q : c.loop-i.i ≡ t.args.given.many.items = omega arith in
+    let e = ap (λ (s : State). s.out) (l.holds ∙ ap (walked (around_of t.args.given.text.now t.args.given.tape.now t.args.given.many.items t.args.given.btext.now t.args.given.table.now t.args.given.many.lines t.args.given.widths.now) t.args.given.tape.now) q) in
+    record { long = sym (length-take-le c.loop-i.far.out c.loop-i.out (omega (arith, l.bounded.out, q, l.long, c.requires))) ∙ ap length e; items = e; past = l.kept.past }

@@ -4,4 +4,4 @@ use Rattle.settle.proofs.Turns.{Walked}
 use Rattle.settle.proofs.walk.Given as goal
 
 abbrev pub invariant-loop-i : goal.invariant-loop-i
-invariant-loop-i l = Walked l.text l.tape l.many.items l.btext l.table l.many.lines l.widths l.initial.out l.code l.starts l.out l.far l.i
+invariant-loop-i l = Walked l.given l.initial.out l.code l.starts l.out l.far l.i

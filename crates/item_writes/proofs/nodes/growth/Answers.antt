@@ -1,14 +1,10 @@
 -- `item_writes::nodes::growth` meets its contract: each operation of a type does what it does. Assumes nothing.
 use mathlib.Core.Path.{◌∙◌}
-use Prim.Native.Nat.{◌+◌, ◌*◌}
 use native.Mathlib.Omega.{arith}
 use Rattle.item_writes.specs.Walk.{around_of}
 use Rattle.item_writes.specs.Tables.{grown_by}
 use Rattle.item_writes.proofs.Writing.{grown_number, grown_bound, grown_port, grown_log, grown_floor, grown_ceil, grown_plus, grown_minus, grown_entry, grown_none}
 use Rattle.item_writes.proofs.nodes.growth.Goals as goal
-
-pub overflow_mul-wide : goal.overflow_mul-wide
-overflow_mul-wide c = omega (arith, c.wide.ensures, c.type_inv.tape (3 * c.args.i + 2))
 
 pub returns-in-1 : goal.returns-in-1
 unfolding grown_by

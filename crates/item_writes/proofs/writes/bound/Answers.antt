@@ -12,5 +12,5 @@ use Rattle.item_writes.proofs.writes.bound.Goals as goal
 pub returns : goal.returns
 returns c =
     let t = c in
-    let l = lines_on t.args.btext.now t.args.table.now t.args.lines.widths t.args.lines.values in
-    c.amount.ensures _ (small_amount c.from.result (omega (arith, c.from.ensures, c.value-x.type_inv)) ∙ ap amount_of (c.from.ensures ∙ c.value-x.ensures ∙ ap (λ (q : ℕ). value_in l (name_from t.args.text.now q)) c.wide.ensures))
+    let l = lines_on t.args.given.btext.now t.args.given.table.now t.args.given.many.lines.widths t.args.given.many.lines.values in
+    c.amount.ensures _ (small_amount c.from.result (omega (arith, c.from.ensures, c.value-x.type_inv)) ∙ ap amount_of (c.from.ensures ∙ c.value-x.ensures ∙ ap (λ (q : ℕ). value_in l (name_from t.args.given.text.now q)) c.wide.ensures))

@@ -9,16 +9,16 @@ use Rattle.item_writes.proofs.Writing.{written_given, written_value, written_rea
 use Rattle.item_writes.proofs.writes.written.Goals as goal
 
 pub read-requires : goal.read-requires
-read-requires c = (c.requires.0, c.requires.6.lets, c.requires.2)
+read-requires c = (c.requires.3.lets, c.requires.0)
 
 pub typed-requires : goal.typed-requires
 typed-requires c =
     let pre = c.requires in
-    (omega (arith, pre.6.types, pre.5), omega (arith, pre.6.nodes, pre.4), pre.6.ordered)
+    (omega (arith, pre.3.types, pre.2), omega (arith, pre.3.nodes, pre.1), pre.3.ordered)
 
 pub returns-in-14 : goal.returns-in-14
 unfolding around_of
-returns-in-14 c = λ out. let t = c in c.amount.ensures _ (c.constant.ensures ∙ ap (λ (q : ℕ). amount_of (constant_at t.args.text.now q)) c.wide.ensures) ∙ sym (written_given _ _ _ _ _ c.in-14.is)
+returns-in-14 c = λ out. let t = c in c.amount.ensures _ (c.constant.ensures ∙ ap (λ (q : ℕ). amount_of (constant_at t.args.given.text.now q)) c.wide.ensures) ∙ sym (written_given _ _ _ _ _ c.in-14.is)
 
 pub returns-in-15 : goal.returns-in-15
 unfolding around_of
@@ -28,29 +28,29 @@ pub returns-in-18 : goal.returns-in-18
 unfolding state_of
 returns-in-18 c =
     λ out. let t = c in c.read.ensures
-    t.args.btext.now t.args.table.now t.args.many.lines
-    (state_of t.args.text.now t.args.tape.now t.args.code.now t.args.starts.now out t.args.i t.args.far) refl refl ∙ sym
+    t.args.given.btext.now t.args.given.table.now t.args.given.many.lines
+    (state_of t.args.given.text.now t.args.given.tape.now t.args.code.now t.args.starts.now out t.args.i t.args.far) refl refl ∙ sym
     (written_read _ _ _ _ _ c.in-18.is)
 
 pub returns-in-19 : goal.returns-in-19
 returns-in-19 c =
     λ out. let t = c in c.cell.ensures.is
-    t.args.btext.now t.args.table.now t.args.many.lines
-    (state_of t.args.text.now t.args.tape.now t.args.code.now t.args.starts.now out t.args.i t.args.far) ∙ sym
+    t.args.given.btext.now t.args.given.table.now t.args.given.many.lines
+    (state_of t.args.given.text.now t.args.given.tape.now t.args.code.now t.args.starts.now out t.args.i t.args.far) ∙ sym
     (written_cell _ _ _ _ _ c.in-19.is)
 
 pub returns-in-34 : goal.returns-in-34
 returns-in-34 c =
     λ out. let t = c in c.cell-in-34.ensures.is
-    t.args.btext.now t.args.table.now t.args.many.lines
-    (state_of t.args.text.now t.args.tape.now t.args.code.now t.args.starts.now out t.args.i t.args.far) ∙ sym
+    t.args.given.btext.now t.args.given.table.now t.args.given.many.lines
+    (state_of t.args.given.text.now t.args.given.tape.now t.args.code.now t.args.starts.now out t.args.i t.args.far) ∙ sym
     (written_write _ _ _ _ _ c.in-34.is)
 
 pub returns-in-33 : goal.returns-in-33
 returns-in-33 c =
     λ out. let t = c in c.port.ensures.is
-    t.args.btext.now t.args.table.now t.args.many.lines
-    (state_of t.args.text.now t.args.tape.now t.args.code.now t.args.starts.now out t.args.i t.args.far) ∙ sym
+    t.args.given.btext.now t.args.given.table.now t.args.given.many.lines
+    (state_of t.args.given.text.now t.args.given.tape.now t.args.code.now t.args.starts.now out t.args.i t.args.far) ∙ sym
     (written_assign _ _ _ _ _ c.in-33.is)
 
 pub returns-in-38 : goal.returns-in-38
@@ -61,23 +61,23 @@ pub returns-in-44 : goal.returns-in-44
 unfolding state_of
 returns-in-44 c =
     λ out. let t = c in c.memory.ensures.is
-    t.args.btext.now t.args.table.now t.args.many.lines
-    (state_of t.args.text.now t.args.tape.now t.args.code.now t.args.starts.now out t.args.i t.args.far) ∙ sym
+    t.args.given.btext.now t.args.given.table.now t.args.given.many.lines
+    (state_of t.args.given.text.now t.args.given.tape.now t.args.code.now t.args.starts.now out t.args.i t.args.far) ∙ sym
     (written_memory _ _ _ _ _ c.in-44.is)
 
 pub returns-in-46 : goal.returns-in-46
 returns-in-46 c =
     λ out. let t = c in c.signed.ensures.is
-    t.args.btext.now t.args.table.now t.args.many.lines
-    (state_of t.args.text.now t.args.tape.now t.args.code.now t.args.starts.now out t.args.i t.args.far) ∙ sym
+    t.args.given.btext.now t.args.given.table.now t.args.given.many.lines
+    (state_of t.args.given.text.now t.args.given.tape.now t.args.code.now t.args.starts.now out t.args.i t.args.far) ∙ sym
     (written_signed _ _ _ _ _ c.in-46.is)
 
 pub returns-in_default : goal.returns-in_default
 unfolding around_of state_of
 returns-in_default c =
     λ out. let t = c in c.typed.ensures
-    (around_of t.args.text.now t.args.tape.now t.args.many.items t.args.btext.now t.args.table.now t.args.many.lines t.args.widths.now)
-    (state_of t.args.text.now t.args.tape.now t.args.code.now t.args.starts.now out t.args.i t.args.far) refl refl refl
+    (around_of t.args.given.text.now t.args.given.tape.now t.args.given.many.items t.args.given.btext.now t.args.given.table.now t.args.given.many.lines t.args.given.widths.now)
+    (state_of t.args.given.text.now t.args.given.tape.now t.args.code.now t.args.starts.now out t.args.i t.args.far) refl refl refl
     (record {
       given = omega arith;
       value = omega arith;

@@ -14,33 +14,39 @@ use Rattle.settle.proofs.steps.step.Goals as goal
 pub written-w-requires : goal.written-w-requires
 written-w-requires c =
     let pre = c.requires in
-    (pre.0, pre.1, pre.2, pre.3, omega (arith, pre.1, pre.2, pre.4), omega (arith, pre.1, pre.2, pre.5), pre.7)
+    let few = c.args.given.few in
+    (pre.0, omega (arith, pre.0, pre.1, few), omega (arith, pre.0, pre.2, few), pre.4)
 
 pub without-left-requires : goal.without-left-requires
 without-left-requires c =
     let pre = c.requires in
-    (omega (arith, pre.7.types, pre.1, pre.2, pre.5), pre.7.ordered)
+    let few = c.args.given.few in
+    (omega (arith, pre.4.types, pre.0, pre.2, few), pre.4.ordered)
 
 pub grow-grown-requires : goal.grow-grown-requires
 grow-grown-requires c =
     let pre = c.requires in
+    let few = c.args.given.few in
     let l = c.without-left.ensures.0 in
-    (omega (arith, l.types, pre.7.types, pre.1, pre.2, pre.5), omega (arith, l.nodes, pre.7.nodes, pre.1, pre.2, pre.4), l.ordered)
+    (omega (arith, l.types, pre.4.types, pre.0, pre.2, few), omega (arith, l.nodes, pre.4.nodes, pre.0, pre.1, few), l.ordered)
 
 pub put-requires : goal.put-requires
 put-requires c =
     let pre = c.requires in
-    omega (arith, pre.7.out, pre.6)
+    let few = c.args.given.few in
+    omega (arith, pre.4.out, pre.3)
 
 pub lets_after-requires : goal.lets_after-requires
 lets_after-requires c =
     let pre = c.requires in
-    omega (arith, pre.1, pre.2)
+    let few = c.args.given.few in
+    omega (arith, pre.0, few)
 
 pub vals_after-requires : goal.vals_after-requires
 vals_after-requires c =
     let pre = c.requires in
-    omega (arith, pre.7.vals, pre.1, pre.2)
+    let few = c.args.given.few in
+    omega (arith, pre.4.vals, pre.0, few)
 
 pub returns : goal.returns
 returns c =
@@ -57,13 +63,13 @@ returns c =
     let t =
     c
     in
-    let b = pre.7 in
+    let b = pre.4 in
     let l = the-without.ensures.0 in
     let g = grow.ensures in
     let few = put.ensures.few in
     let out = put.ensures.end in
-    let o = op_at t.args.tape.now t.args.i in
-    let fits : t.args.far.out + length (numbers_of written.result) ≤ length t.args.out.now = omega (arith, few, b.out, pre.6) in
+    let o = op_at t.args.given.tape.now t.args.i in
+    let fits : t.args.far.out + length (numbers_of written.result) ≤ length t.args.out.now = omega (arith, few, b.out, pre.3) in
     record {
       bounded = record {
         types = omega (arith, g.types, l.types, b.types);
@@ -79,14 +85,14 @@ returns c =
         past = rw (out, put.ensures.put)
             (unstored t.args.out.now (numbers_of written.result) t.args.far.out fits);
       };
-      state = turn t.args.text.now t.args.tape.now t.args.many.items t.args.btext.now t.args.table.now t.args.many.lines t.args.widths.now t.args.code.now t.args.starts.now t.args.out.now t.args.i t.args.far _ _ _ _
+      state = turn t.args.given.text.now t.args.given.tape.now t.args.given.many.items t.args.given.btext.now t.args.given.table.now t.args.given.many.lines t.args.given.widths.now t.args.code.now t.args.starts.now t.args.out.now t.args.i t.args.far _ _ _ _
           b.lets
           (record {
-            types = g.is ∙ growth.ensures t.args.widths.now _ ∙ ap
+            types = g.is ∙ growth.ensures t.args.given.widths.now _ ∙ ap
                 (grown
-                (around_of t.args.text.now t.args.tape.now t.args.many.items t.args.btext.now t.args.table.now
-                t.args.many.lines t.args.widths.now)
-                o (place_at t.args.tape.now t.args.i) (value_at t.args.tape.now t.args.i))
+                (around_of t.args.given.text.now t.args.given.tape.now t.args.given.many.items t.args.given.btext.now t.args.given.table.now
+                t.args.given.many.lines t.args.given.widths.now)
+                o (place_at t.args.given.tape.now t.args.i) (value_at t.args.given.tape.now t.args.i))
                 (the-without.ensures.1 t.args.code.now ∙ ap
                 (λ (n : ℕ). without n (waits_in t.args.code.now t.args.starts.now t.args.far.waits)) (wide.ensures ∙ takes.ensures));
             wrote = ap₂ (λ (n : ℕ) (x : List ℕ). take n x) out put.ensures.put ∙ stored t.args.out.now (numbers_of written.result)
