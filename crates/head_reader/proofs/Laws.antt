@@ -3,7 +3,7 @@ use mathlib.Core.Path.{◌≡◌, refl, sym, ap, ◌∙◌}
 use mathlib.Core.Bool.{Bool, true, false}
 use mathlib.Core.List.{List, [], ◌∷◌, ◌++◌}
 use mathlib.Core.Option.{Option, none, some}
-use Prim.Native.Nat.{ℕ, zero, suc, ◌+◌, ◌*◌, ◌≤◌, ◌<◌}
+use Prim.Native.Nat.{ℕ, zero, suc, ◌+◌, ◌<◌}
 use native.Mathlib.Omega.{arith}
 use mir.Val.{bool_byte}
 use lib.Dec.{eqb}
@@ -50,9 +50,6 @@ store_miss text p l v (suc (suc (suc (suc k)))) h₁ h₂ = neither _ _ (s_reg.i
 
 other : {k i j : ℕ} → k ≡ i → (i ≡ j → ⊥) → k ≡ j → ⊥
 other e h q = h (sym e ∙ q)
-
-pub begins_inside : {A : Type 0} {test : Word → Option A} {w : List ℕ} {x : ℕ} {a : List ℕ → A} → Begins test w x a → x < count w
-begins_inside {w} {x} b = kind_inside w x b.kind b.there b.is
 
 module _ {w : List ℕ} {x k : ℕ} (e : k ≡ kind_at w x) where
   pub begins_input : k ≡ 4 → Begins is_way w x (λ text. eqb k 4)

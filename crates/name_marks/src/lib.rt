@@ -26,9 +26,7 @@ fn remembered(text: &[u8], tape: &Tape, n: usize, name: &[u8]) -> bool
     ensures { result ≡ among (memories_on text.now tape.now n) name.now }
 {
     let (items, _) = tape[..n].as_chunks::<3>();
-    items
-        .iter()
-        .any(|&[op, at, _]| op == MEMORY && stands(text, at as usize, name))
+    items.iter().any(|&[op, at, _]| op == MEMORY && stands(text, at as usize, name))
 }
 
 const P: &[u8] = b"p";

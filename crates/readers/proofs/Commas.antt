@@ -30,9 +30,6 @@ module _ {T : Type 0} (fl : T → List ℕ) (item : ℕ → List Word → Res T)
     pub went : Went (count w) x₀ m₀ x m
     pub goes : {text : List ℕ} {ms : List (List ℕ)} {ws : List Word} → Marked text ms w ws → (r : Out) (t' : List ℕ) → Listed ws r t' x m t → Listed ws r t' x₀ m₀ t₀
 
-pub commas_start : {T : Type 0} {fl : T → List ℕ} {item : ℕ → List Word → Res T} {w : List ℕ} {x m : ℕ} {t : List ℕ} → x ≤ count w → Commas fl item w x m t x m t
-commas_start h = record { went = omega arith; goes = λ M r t' a. a }
-
 module _ {T : Type 0} {fl : T → List ℕ} {item : ℕ → List Word → Res T} {w : List ℕ} {x₀ m₀ : ℕ} {t₀ : List ℕ} {x m : ℕ} {t : List ℕ}
     (C : Commas fl item w x₀ m₀ t₀ x m t) where
   abbrev IsItem : Out → List ℕ → Type 0

@@ -1,17 +1,16 @@
 -- How answers and tapes go together, whatever the grammar. Assumes nothing.
-use mathlib.Core.Path.{◌≡◌, sym, ap, subst, ◌∙◌}
+use mathlib.Core.Path.{◌≡◌, ap, subst, ◌∙◌}
 use mathlib.Core.List.{List, [], ◌∷◌, ◌++◌}
-use Prim.Native.Nat.{ℕ, suc, ◌+◌, ◌-◌, ◌≤◌, ◌<◌}
+use Prim.Native.Nat.{ℕ, suc, ◌+◌, ◌-◌, ◌<◌}
 use native.Mathlib.Omega.{arith}
 use native.Mathlib.Nat.{add-zero, add-suc, suc-add}
 use lib.ListN.{length, drop, length-append}
 use lib.Seq.{sets}
 use Rattle.language.specs.Words.{Word}
 use Rattle.language.specs.Reader.{Res, bind}
-use Rattle.readers.specs.Marks.{count}
 use Rattle.std.specs.Prelude.{Result, Ok, Err, IsErrAnd}
 use Rattle.std.proofs.lemmas.Result.{err_from_is_err_and}
-use Rattle.readers.specs.Meets.{Out, On, Went, Stopped, MovedTo, Moved, Agrees, read, fault}
+use Rattle.readers.specs.Meets.{Out, On, Went, MovedTo, Moved, Agrees, read, fault}
 use Rattle.readers.specs.declared.Misfit.{Misfit}
 
 -- ---- fuel
@@ -42,10 +41,6 @@ pub on_value : {s t : List ℕ} {b n op p v v' : ℕ} → v ≡ v' → On s b (o
 on_value {op} {p} e o = on_as (ap (λ (v : ℕ). op ∷ p ∷ v ∷ []) e) o
 
 -- ---- where answers lie
-
--- past a word
-pub moved_word : {len at n : ℕ} → at < len → Went len at n (at + 1) n
-moved_word h = omega arith
 
 -- a reader that starts where another came to, or past a word
 pub moved_more : {len at n x m : ℕ} {o : Out} → Went len at n x m → Moved len x m o → Moved len at n o

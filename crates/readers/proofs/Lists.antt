@@ -88,10 +88,6 @@ module _ {A T : Type 0} (fl : T → List ℕ) (test : Word → Option A) (item :
   abbrev pub IsList : ℕ → ℕ → List ℕ → Out → List ℕ → Type 0
   IsList x m t o t' = Met (flats fl) 1 (λ text ms ws f. many_p test (item ms) f (drop x ws)) w x m t o t'
 
-  -- before the first turn
-  pub list_none : {x m : ℕ} {t : List ℕ} → x ≤ count w → Listed x m t x m t
-  list_none h = record { went = omega arith; goes = λ M r t' k. k }
-
 module _ {A T : Type 0} {fl : T → List ℕ} {test : Word → Option A} {item : List (List ℕ) → ℕ → A → List Word → Res T} {w : List ℕ} {x₀ m₀ x m : ℕ} {t₀ t : List ℕ} (v : Listed fl test item w x₀ m₀ t₀ x m t) where
   -- a turn
   pub list_more : {a : List ℕ → A} {y n : ℕ} {t₁ : List ℕ} → Begins test w x a → IsItem fl test item w a x m t (Ok (y, n)) t₁ → Listed fl test item w x₀ m₀ t₀ y n t₁

@@ -17,7 +17,7 @@ use Rattle.signs.specs.Kinds.{spelled_words}
 use Rattle.words.specs.Table.{word_of, word_at}
 use Rattle.readers.specs.Marks.{count, kind_at, place_at, long_at, value_at, name_at, spelled_at, Marked, fixed_of, the_type, is_type, the_p, is_p}
 use Rattle.std.specs.Prelude.{Ok, Err}
-use Rattle.readers.specs.Meets.{Out, On, Went, Moved, Agrees, fault, Finds, Lacks}
+use Rattle.readers.specs.Meets.{Out, On, Agrees, fault, Finds, Lacks}
 use Rattle.readers.proofs.Laws.{bind_ok, bind_err}
 use Rattle.readers.specs.declared.Misfit.{Misfit}
 

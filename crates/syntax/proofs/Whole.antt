@@ -9,7 +9,7 @@ use native.Mathlib.Numerals.{add-one}
 use lib.Dec.{ltb}
 use lib.ListN.{length, get_or, set, take, drop, length-set, length-drop, drop_of_length-le, get_or-append}
 use Rattle.std.proofs.lemmas.List.{length-take-le}
-use lib.Seq.{sets, sets-eq, length-sets, take_at, take-suc, drop-cons, get_or-set_same, get_or-set_other}
+use lib.Seq.{sets, sets-eq, length-sets, take_at, drop-cons, get_or-set_same, get_or-set_other}
 use borrow.Author.Tests.{lt-ltb, le-ltb, le-leb, lt-leb, ltb-true, ltb-false}
 use Rattle.language.specs.Text.{earliest}
 use Rattle.language.specs.Words.{Word, fixed, place_of, Lexed, words, bad_at, words_of, left_out}

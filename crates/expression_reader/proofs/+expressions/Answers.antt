@@ -1,7 +1,7 @@
 -- The cycle of the expressions meets its contracts. Assumes nothing.
 use native.Mathlib.Omega.{arith}
 use mathlib.Core.Path.{sym, ap, ◌∙◌}
-use Prim.Native.Nat.{◌+◌, ◌-◌}
+use Prim.Native.Nat.{◌-◌}
 use Rattle.language.specs.Tree.{inside, choice, beside, binary}
 use Rattle.tape.specs.Tape.{flat}
 use Rattle.readers.specs.Marks.{is_mark}
@@ -381,10 +381,10 @@ pub operators-returns-then-arm_ends : goal.operators-returns-then-arm_ends
 operators-returns-then-arm_ends t c = record {
   moved = record { to = c.loop-at.invariant.went };
   agrees = λ M f h e on. c.loop-at.invariant.goes M _ _ _ _ (λ a on f h. rw (suc_of f (omega (arith, c.loop-at.invariant.went))) (elim c.then-arm_ends.branch [
-      operators-then-arm_ends-via-then-arm_ends w ↦ rw (bin_ends M (f - 1) _ _ a _ (sym (c.arm_ends.ensures.is M) ∙ w.if-arm_ends.true)) (read on)
+    | operators-then-arm_ends-via-then-arm_ends w ↦ rw (bin_ends M (f - 1) _ _ a _ (sym (c.arm_ends.ensures.is M) ∙ w.if-arm_ends.true)) (read on)
     | operators-then-arm_ends-via-else-arm_ends+then-l-below w ↦
-      rw (bin_stop M (f - 1) _ _ a _ (sym (c.arm_ends.ensures.is M) ∙ w.if-arm_ends.false) (level_as _ _ _ _ c.level-l.ensures.is c.kind-k.ensures.is w.if-l-below.true)) (read on)
-    ])) e on f h;
+        rw (bin_stop M (f - 1) _ _ a _ (sym (c.arm_ends.ensures.is M) ∙ w.if-arm_ends.false) (level_as _ _ _ _ c.level-l.ensures.is c.kind-k.ensures.is w.if-l-below.true)) (read on)
+  ])) e on f h;
 }
 
 pub operators-returns-in_err-x : goal.operators-returns-in_err-x

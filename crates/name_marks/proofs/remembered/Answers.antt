@@ -1,5 +1,5 @@
 -- `name_marks::remembered` meets its contract. Assumes nothing.
-use Rattle.std.proofs.Common.{◌∙◌, ap, rules, tests, arith, length, take, ◌/◌, ◌*◌, ◌<◌, ◌≤◌, ◌+◌}
+use Rattle.std.proofs.Common.{◌∙◌, ap, rules, tests, arith, length, take, ◌/◌}
 use Rattle.std.proofs.lemmas.Iterator.{YieldsList-from_slice}
 use Rattle.std.proofs.lemmas.Iterator.Search.{any_from_yields_List}
 use Rattle.std.specs.List.{list_any}

@@ -1,5 +1,4 @@
 -- `name_marks::value` meets its contract. Assumes nothing.
-use Rattle.std.proofs.Common.{arith, rules}
 use Rattle.name_marks.specs.Marking.{name_mark}
 use Rattle.name_marks.proofs.Marked.{one_byte}
 use Rattle.name_marks.proofs.value.Goals as goal

@@ -1,7 +1,7 @@
 -- The cycle of the types meets its contracts. Assumes nothing.
 use native.Mathlib.Omega.{arith}
 use mathlib.Core.Path.{◌≡◌, sym, ◌∙◌}
-use Prim.Native.Nat.{ℕ, ◌≤◌, ◌+◌, ◌-◌}
+use Prim.Native.Nat.{ℕ, ◌≤◌, ◌-◌}
 use Rattle.language.specs.Tree.{entry}
 use Rattle.tape.specs.Tape.{flat_t}
 use Rattle.readers.specs.Meets.{read, fault}

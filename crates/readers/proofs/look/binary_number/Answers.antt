@@ -2,7 +2,6 @@
 use mathlib.Core.Path.{refl, sym, ap, ◌∙◌}
 use Prim.Native.String.{String}
 use Rattle.language.specs.Grammar.{operators, operator_in}
-use Rattle.tape.specs.Tape.{binary_number}
 use Rattle.readers.specs.Marks.{binary_of, binary_in, fixed_of}
 use Rattle.signs.specs.Kinds.{spelled_words}
 use Rattle.readers.proofs.Table.{at_least, figure_law}

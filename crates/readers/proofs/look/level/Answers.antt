@@ -1,9 +1,9 @@
 -- `readers::look::level` meets its contract: its table is a test at each of its entries, which antt computes; past it no word is fixed. Assumes nothing.
-use Rattle.std.proofs.Common.{◌≡◌, ℕ, ◌+◌, ◌-◌, ◌≤◌, ◌<◌, Bool, true, false, refl, sym, ap, ◌∙◌, arith, rules}
+use Rattle.std.proofs.Common.{◌≡◌, ℕ, ◌+◌, ◌-◌, ◌≤◌, Bool, true, false, refl, sym, ap, ◌∙◌, arith}
 use Prim.Native.String.{String}
-use lib.Dec.{T, leb, ltb, leb→le}
+use lib.Dec.{leb, ltb, leb→le}
 use lib.ListN.{get_or}
-use borrow.Author.Tests.{ltb-true, ltb-false}
+use borrow.Author.Tests.{ltb-true}
 use Rattle.language.specs.Grammar.{operators, operator_in}
 use Rattle.readers.specs.Marks.{level_of, level_in, fixed_of, figure_of}
 use Rattle.signs.specs.Kinds.{spelled_words}

@@ -27,9 +27,9 @@ pub returns-then-long-ne1 : goal.returns-then-long-ne1
 returns-then-long-ne1 c = record {
   moved = omega (arith, c.requires);
   agrees = λ M f h. elim c.then-long-ne1.branch [
-      then-long-ne1-via-then-long-ne1 w ↦ rw (figure_long M _ _ c.in_ok-x.ensures.kind (λ q. w.if-long-ne1.true (c.long.ensures ∙ q))) fault
+    | then-long-ne1-via-then-long-ne1 w ↦ rw (figure_long M _ _ c.in_ok-x.ensures.kind (λ q. w.if-long-ne1.true (c.long.ensures ∙ q))) fault
     | then-long-ne1-via-else-long-ne1+then-v-gt1 w ↦ rw (figure_value M _ _ c.in_ok-x.ensures.kind (omega (arith, c.value-v.ensures, w.if-v-gt1))) fault
-    ];
+  ];
 }
 
 pub returns : goal.returns

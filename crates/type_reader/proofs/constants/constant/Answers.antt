@@ -1,6 +1,6 @@
 -- `type_reader::constants::constant` meets its contract. Assumes nothing.
 use native.Mathlib.Omega.{arith}
-use mathlib.Core.Path.{sym, ◌∙◌}
+use mathlib.Core.Path.{◌∙◌}
 use Prim.Native.Nat.{◌-◌}
 use Rattle.tape.specs.Tape.{flat}
 use Rattle.readers.specs.Meets.{read}
