@@ -4,8 +4,7 @@
 #![tactic(auto)]
 
 ghost use Rattle.language.specs.Limits.{limits};
-ghost use Rattle.std.specs.Prelude.{◌≡◌, [], ◌∷◌, ◌+◌, ◌*◌, ◌≤◌, ◌<◌, length, take, drop};
-ghost use Rattle.std.proofs.lemmas.List.Edits.{sets};
+ghost use Rattle.std.specs.Prelude.{◌≡◌, [], ◌+◌, ◌*◌, ◌≤◌, ◌<◌, length, drop};
 ghost use Rattle.language.specs.Bindings.{lines as lines_of, section as section_of};
 ghost use Rattle.binding_numbers.specs.Steps.{Greatest};
 ghost use Rattle.binding_names.specs.Names.{Lent};

@@ -3,7 +3,7 @@
 // What goes out: whether floor and ceil can take the one, and any operation the two.
 #![tactic(auto)]
 
-ghost use Rattle.std.specs.Prelude.{◌≡◌, ◌+◌, ◌*◌, ◌/◌, ◌<◌};
+ghost use Rattle.std.specs.Prelude.{◌≡◌, ◌+◌, ◌*◌};
 ghost use Rattle.exact_room.specs.Tests.{fits, has_space, sums_fit, products_fit, has_room};
 
 use language::Exact;

@@ -3,7 +3,7 @@
 // What goes out: the value, a width, or a bit position, None outside; 0 where no type's code stands.
 #![tactic(auto)]
 
-ghost use Rattle.std.specs.Prelude.{◌≡◌, ◌+◌, ◌*◌, ◌/◌, ◌%◌, ◌≤◌, ◌<◌, length};
+ghost use Rattle.std.specs.Prelude.{◌≡◌, ◌≤◌, length};
 ghost use Rattle.language.specs.Limits.{limits};
 ghost use Rattle.language.specs.Types.{width_of, position_of};
 ghost use Rattle.exact.specs.Room.{Space, Room, positioned};

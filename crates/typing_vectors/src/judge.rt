@@ -57,7 +57,7 @@ fn push(marks: &mut [u32; 64], k: usize, m: u32) -> Option<usize>
     Some(k + 1)
 }
 
-// One node more: how many types wait then, where the node keeps the rules.
+// One node more: how many types wait then, where the node keeps the rules. A switch on numbers: the code may be no type's.
 fn step(node: u32, unknowns: usize, marks: &mut [u32; 64], n: usize) -> Option<usize>
     requires { (n ≤ 64) × (length marks.old ≡ 64) }
     ensures held { IfSome result (λ r. (r ≤ 64) × ((ks : List ℕ) → Held unknowns marks.old n ks → Held unknowns marks.new r (ks ++ (node ∷ [])))) }
