@@ -20,7 +20,7 @@ const TEXT: usize = 4096;
 
 const PLAN: usize = 1024;
 
-// Reads until there is no room or the input ends.
+// Reads until there is no room or the input ends. A loop, since std reads to the end only into a list on the heap.
 fn fill(input: &mut impl Read, text: &mut [u8]) -> io::Result<usize>
     ensures { IfOk result (λ n. n ≤ length text.new) }
 {
