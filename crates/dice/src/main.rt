@@ -3,14 +3,11 @@
 // place of a refusal; tests/dice.py works the same faces out by its own arithmetic.
 #![tactic(auto)]
 
-ghost use Rattle.std.specs.Prelude.{◌≤◌, length};
+ghost use Rattle.std.specs.Prelude.{◌≤◌, length, IfOk};
 
+use std::io;
+use std::io::Read;
 use tipi::Answer;
-
-// The standard streams, as file descriptors.
-const STDIN: i32 = 0;
-
-const STDOUT: i32 = 1;
 
 // One cycle that sets the register, then the rolls: more than the 255 states of eight bits.
 const CYCLES: usize = 301;
@@ -18,24 +15,38 @@ const CYCLES: usize = 301;
 // Ports of the actor: seed, load, face.
 const PORTS: usize = 3;
 
-fn say(n: u64) {
-    io::print_decimal(STDOUT, n);
-    io::write_all(STDOUT, b"\n");
+// The room of the actor's text, and of its plan.
+const TEXT: usize = 4096;
+
+const PLAN: usize = 1024;
+
+// Reads until there is no room or the input ends. A loop, since std reads to the end only into a list on the heap.
+fn fill(input: &mut impl Read, text: &mut [u8]) -> io::Result<usize>
+    ensures { IfOk result (λ n. n ≤ length text.new) }
+{
+    let mut n = 0;
+    while n < text.len() {
+        let more = input.read(&mut text[n..])?;
+        if more == 0 {
+            break;
+        }
+        n += more;
+    }
+    Ok(n)
 }
 
 // The face of each cycle but the first.
-fn show(outputs: &[u64])
+fn show(rt: &impl Print, outputs: &[u64]) -> io::Result<()>
     requires { 903 ≤ length outputs.now }
 {
-    let mut i = 1;
-    while i < CYCLES {
-        say(outputs[PORTS * i + 2]);
-        i += 1;
+    for i in 1..CYCLES {
+        println!(rt; "{}", outputs[PORTS * i + 2])?;
     }
+    Ok(())
 }
 
 // Seed and load are present in the first cycle, the face in all others.
-fn roll(plan: &[u32]) {
+fn roll(rt: &impl Print, plan: &[u32]) -> io::Result<()> {
     let mut masks = [4u32; CYCLES];
     masks[0] = 3;
     let values = [1u64; PORTS * CYCLES];
@@ -50,24 +61,22 @@ fn roll(plan: &[u32]) {
         &mut outputs,
         &mut answers,
     );
-    say(done as u64);
-    show(&outputs);
+    println!(rt; "{done}")?;
+    show(rt, &outputs)
 }
 
-fn main() {
-    let mut actor = io::buffer();
-    let n = io::read_full(STDIN, &mut actor);
-    let mut plan = [0u32; 1024];
+fn main(rt: HostRuntime) -> io::Result<()> {
+    let mut actor = [0u8; TEXT];
+    let n = fill(&mut rt.stdin(), &mut actor)?;
+    let mut plan = [0u32; PLAN];
     match tipi::read(&actor[..n], b"1\nseed 8\n0\n", &mut plan) {
         Answer::Plan(l) => {
             let end = l as usize;
-            if end <= 1024 {
-                roll(&plan[..end]);
+            if end <= PLAN {
+                roll(&rt, &plan[..end])?;
             }
+            Ok(())
         }
-        Answer::Refused(row, _, place) => {
-            say(row as u64);
-            say(place as u64);
-        }
+        Answer::Refused(row, _, place) => println!(rt; "{row}\n{place}"),
     }
 }

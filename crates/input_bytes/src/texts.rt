@@ -19,6 +19,7 @@ pub fn count_byte(s: State, b: u8, next: Stage) -> State
 }
 
 // A byte of a text is kept while there is room, which is one byte more than its limit.
+// By an index: `get_mut` promises nothing of the elements.
 #[tactic(auto, unfolding(crate::specs::Texts::kept_of))]
 fn keep(text: &mut [u8], k: usize, b: u8) -> usize
     ensures { (result ≡ kept_of k (length text.old)) × (text.new ≡ set text.old k b) }
