@@ -62,6 +62,7 @@ fn strange(
     ensures { StrangeTold text.now tape.now many class btext.now table.now from to rest result }
 {
     let mut first = rest;
+    // no chain over both sections: what `filter` asks of each turn of two chained ranges stayed open
     for i in (from..to).rev() {
         if !said(text, tape, 0, many, class, line_name(btext, table, i)) {
             first = words::earlier(table[3 * i], first);

@@ -153,7 +153,7 @@ pub fn same_name(text: &[u8], p: usize, q: usize) -> bool
     spelling::same_bytes(name(text, p), name(text, q))
 }
 
-// Whether an item is of a class.
+// Whether an item is of a class. One table here and no closures: the contracts name the class (`names_on` of specs/).
 #[tactic(auto, unfolding(crate::specs::Walk::hit))]
 fn is(class: Class, op: u32, value: u32) -> bool
     ensures { result ≡ hit class op value }
