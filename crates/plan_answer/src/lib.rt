@@ -44,5 +44,6 @@ pub fn made(
         text: Text::Actor,
         place: 0,
     };
-    row13_plan::made(items, 6 * many, code, total(lengths), lengths, plan).ok_or(no_room)
+    let code = &code[..total(lengths)];
+    row13_plan::made(&items[..6 * many], code, lengths, plan).ok_or(no_room)
 }

@@ -26,12 +26,12 @@ fn mark(section: Section) -> u32
 }
 
 // How many items have an operation.
-fn count(items: &[u32], n: usize, op: u32) -> usize
-    requires { Few items.now n }
-    ensures { (result ≡ counted op (items_from items.now n 0)) × (result ≤ most_settled) }
+fn count(items: &[u32], op: u32) -> usize
+    requires { Few items.now }
+    ensures { (result ≡ counted op (items_of items.now)) × (result ≤ most_settled) }
 {
     let mut k = 0;
-    for i in 0..n / 6 {
+    for i in 0..items.len() / 6 {
         if items[6 * i] == op {
             k += 1;
         }
@@ -43,22 +43,21 @@ fn count(items: &[u32], n: usize, op: u32) -> usize
 fn put_section(
     section: Section,
     items: &[u32],
-    n: usize,
     lengths: &[u32],
     plan: &mut [u32],
     from: usize,
 ) -> usize
-    requires few { Few items.now n }
-    requires n_in_bounds { from + length (section_of section lengths.now (items_from items.now n 0)) ≤ length plan.old }
-    ensures { Put plan.old from (section_of section lengths.now (items_from items.now n 0)) result plan.new }
+    requires few { Few items.now }
+    requires n_in_bounds { from + length (section_of section lengths.now (items_of items.now)) ≤ length plan.old }
+    ensures { Put plan.old from (section_of section lengths.now (items_of items.now)) result plan.new }
 {
     let op = mark(section);
-    plan[from] = count(items, n, op) as u32;
+    plan[from] = count(items, op) as u32;
     let mut at = from + 1;
     let mut k = 0;
-    for i in 0..n / 6 {
+    for i in 0..items.len() / 6 {
         if items[6 * i] == op {
-            at = put_item(section, items, n, 6 * i, lengths, k, plan, at);
+            at = put_item(section, items, 6 * i, lengths, k, plan, at);
             k += 1;
         }
     }
@@ -66,42 +65,35 @@ fn put_section(
 }
 
 // Puts the code after its count.
-fn put_code(code: &[u32], long: usize, plan: &mut [u32], from: usize)
-    requires { (long ≤ length code.now) × (long ≤ 8 * most_settled) × (from + 1 + long ≤ length plan.old) }
-    ensures { plan.new ≡ sets plan.old from (long ∷ take long code.now) }
+fn put_code(code: &[u32], plan: &mut [u32], from: usize)
+    requires { (length code.now ≤ 8 * most_settled) × (from + 1 + length code.now ≤ length plan.old) }
+    ensures { plan.new ≡ sets plan.old from (length code.now ∷ code.now) }
 {
-    plan[from] = long as u32;
-    plan[from + 1..from + 1 + long].copy_from_slice(&code[..long]);
+    plan[from] = code.len() as u32;
+    plan[from + 1..from + 1 + code.len()].copy_from_slice(code);
 }
 
 // How many numbers the plan has, where the table has room for them. The room is tested first, so that a table that is too short
 // stays as it stood.
-pub fn made(
-    items: &[u32],
-    n: usize,
-    code: &[u32],
-    long: usize,
-    lengths: &[u32],
-    plan: &mut [u32],
-) -> Option<u32>
-    requires few { Few items.now n }
-    requires long_in_bounds { (long ≤ length code.now) × (long ≤ 8 * most_settled) }
-    ensures answer { result ≡ answer_of (plan_in (items_of (take n items.now)) (take long code.now) lengths.now) plan.old }
-    ensures table { plan.new ≡ table_after (plan_in (items_of (take n items.now)) (take long code.now) lengths.now) plan.old }
+pub fn made(items: &[u32], code: &[u32], lengths: &[u32], plan: &mut [u32]) -> Option<u32>
+    requires few { Few items.now }
+    requires code_few { length code.now ≤ 8 * most_settled }
+    ensures answer { result ≡ answer_of (plan_in (items_of items.now) code.now lengths.now) plan.old }
+    ensures table { plan.new ≡ table_after (plan_in (items_of items.now) code.now lengths.now) plan.old }
 {
-    let ports = count(items, n, SIGNED);
-    let memories = count(items, n, MEMORY);
-    let groups = count(items, n, OR);
-    let rules = count(items, n, RULE);
-    let whole = 6 + ports + 2 * memories + groups + 3 * rules + long;
+    let ports = count(items, SIGNED);
+    let memories = count(items, MEMORY);
+    let groups = count(items, OR);
+    let rules = count(items, RULE);
+    let whole = 6 + ports + 2 * memories + groups + 3 * rules + code.len();
     if plan.len() < whole {
         return None;
     }
     plan[0] = 1;
-    let a = put_section(Section::Ports, items, n, lengths, plan, 1);
-    let b = put_section(Section::Memories, items, n, lengths, plan, a);
-    let c = put_section(Section::Groups, items, n, lengths, plan, b);
-    let d = put_section(Section::Rules, items, n, lengths, plan, c);
-    put_code(code, long, plan, d);
+    let a = put_section(Section::Ports, items, lengths, plan, 1);
+    let b = put_section(Section::Memories, items, lengths, plan, a);
+    let c = put_section(Section::Groups, items, lengths, plan, b);
+    let d = put_section(Section::Rules, items, lengths, plan, c);
+    put_code(code, plan, d);
     Some(whole as u32)
 }

@@ -4,7 +4,7 @@
 #![tactic(auto)]
 
 ghost use Rattle.std.specs.Prelude.{◌≡◌, ◌+◌, ◌%◌, ◌^◌, ◌≤◌, length, slice_index};
-ghost use Rattle.section_items.specs.Items.{rules_up_to, bit_of, mask_up_to};
+ghost use Rattle.section_items.specs.Items.{items_of, rules_up_to, bit_of, mask_up_to};
 ghost use Rattle.section_items.specs.Sections.{items_from, item_at, width_of, numbers_of, Few, Put};
 
 use settled::{OR, PRESENT, RULE, RULED};
@@ -19,14 +19,13 @@ pub enum Section {
 }
 
 // How many rules begin before the next group.
-fn rules(items: &[u32], n: usize, from: usize) -> u32
-    requires few { Few items.now n }
-    requires from_le_n { from ≤ n }
-    ensures { result ≡ rules_up_to (items_from items.now n from) }
+fn rules(items: &[u32]) -> u32
+    requires { Few items.now }
+    ensures { result ≡ rules_up_to (items_of items.now) }
 {
     let mut k = 0;
-    for i in 0..(n - from) / 6 {
-        match items[from + 6 * i] {
+    for i in 0..items.len() / 6 {
+        match items[6 * i] {
             OR => return k,
             RULE => k += 1,
             _ => {}
@@ -48,14 +47,13 @@ fn bit(op: u32, port: u32, listed: u32, wanted: u32) -> u32
 }
 
 // The mask of the ports that a rule lists as wanted, up to its end.
-fn mask(items: &[u32], n: usize, from: usize, wanted: u32) -> u32
-    requires few { Few items.now n }
-    requires from_le_n { from ≤ n }
-    ensures { result ≡ mask_up_to wanted (items_from items.now n from) % 2 ^ 32 }
+fn mask(items: &[u32], wanted: u32) -> u32
+    requires { Few items.now }
+    ensures { result ≡ mask_up_to wanted (items_of items.now) % 2 ^ 32 }
 {
     let mut sum = 0u32;
-    for i in 0..(n - from) / 6 {
-        let at = from + 6 * i;
+    for i in 0..items.len() / 6 {
+        let at = 6 * i;
         if items[at] == RULED {
             return sum;
         }
@@ -75,17 +73,17 @@ fn length_at(lengths: &[u32], k: usize) -> u32
 pub fn put_item(
     section: Section,
     items: &[u32],
-    n: usize,
     i: usize,
     lengths: &[u32],
     k: usize,
     plan: &mut [u32],
     at: usize,
 ) -> usize
-    requires few { Few items.now n }
-    requires i_bound { (i + 6 ≤ n) × (at + width_of section ≤ length plan.old) }
-    ensures { Put plan.old at (numbers_of section lengths.now k (item_at items.now i) (items_from items.now n (i + 6))) result plan.new }
+    requires few { Few items.now }
+    requires i_bound { (i + 6 ≤ length items.now) × (at + width_of section ≤ length plan.old) }
+    ensures { Put plan.old at (numbers_of section lengths.now k (item_at items.now i) (items_from items.now (i + 6))) result plan.new }
 {
+    let after = &items[i + 6..];
     match section {
         Section::Ports => {
             plan[at] = items[i + 2];
@@ -97,12 +95,12 @@ pub fn put_item(
             at + 2
         }
         Section::Groups => {
-            plan[at] = rules(items, n, i + 6);
+            plan[at] = rules(after);
             at + 1
         }
         Section::Rules => {
-            plan[at] = mask(items, n, i + 6, 1);
-            plan[at + 1] = mask(items, n, i + 6, 0);
+            plan[at] = mask(after, 1);
+            plan[at + 1] = mask(after, 0);
             plan[at + 2] = length_at(lengths, k);
             at + 3
         }

@@ -1,4 +1,5 @@
 // The operations of settled items, each once: docs/TAPE.md says what the operands of each are.
+// Numbers and no enum: `settled_of` fixes each, and they stand in tables of numbers.
 ghost use Rattle.std.specs.Prelude.{◌≡◌};
 ghost use Rattle.settled.specs.Form.{operations};
 

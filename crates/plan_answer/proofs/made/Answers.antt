@@ -2,6 +2,7 @@
 use native.Mathlib.Omega.{arith}
 use Prim.Native.Nat.{◌*◌}
 use lib.ListN.{take}
+use Rattle.std.proofs.Common.{length-take}
 use Rattle.section_items.specs.Items.{items_of}
 use Rattle.plan_answer.proofs.Saying.{made_said, made_tabled}
 use Rattle.plan_answer.proofs.made.Goals as goal
@@ -9,8 +10,7 @@ use Rattle.plan_answer.proofs.made.Goals as goal
 pub made-requires : goal.made-requires
 made-requires c =
     let pre = c.requires in
-    let total = c.total in
-    record { few = record { there = pre.1; few = omega (arith, pre.0) }; long_in_bounds = (omega (arith, total.ensures, pre.3), omega (arith, total.ensures, pre.3, pre.4)) }
+    record { few = omega (arith, pre.0, length-take (6 * c.args.many) c.args.items.now); code_few = omega (arith, pre.4, length-take c.total.result c.args.code.now) }
 
 pub returns : goal.returns
 returns c =

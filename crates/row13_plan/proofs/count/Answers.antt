@@ -10,9 +10,9 @@ loop-i-preserved c =
     let t = c.args.items.now in
     let i = c.loop-i.i in
     elim c.if-items-i.branch [
-      | then-items-i w ↦ (omega arith, omega (arith, count_here t c.args.n (6 * i) c.requires (6 * (i + 1)) (omega arith) (omega arith) w.if-items-i.true))
-      | else-items-i w ↦ (omega arith, omega (arith, count_past t c.args.n (6 * i) c.requires (6 * (i + 1)) (omega arith) (omega arith) w.if-items-i.false))
+      | then-items-i w ↦ (omega arith, omega (arith, count_here t (6 * i) (6 * (i + 1)) (omega arith) (omega arith) w.if-items-i.true))
+      | else-items-i w ↦ (omega arith, omega (arith, count_past t (6 * i) (6 * (i + 1)) (omega arith) (omega arith) w.if-items-i.false))
     ]
 
 pub returns : goal.returns
-returns c = (omega (arith, count_end c.args.items.now c.args.n (6 * c.loop-i.i) c.requires (omega arith) c.args.op), omega arith)
+returns c = (omega (arith, count_end c.args.items.now (6 * c.loop-i.i) (omega arith) c.args.op), omega arith)

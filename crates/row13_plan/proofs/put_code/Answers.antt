@@ -3,12 +3,9 @@ use native.Mathlib.Omega.{arith}
 use Prim.Native.Nat.{◌+◌}
 use mathlib.Core.Path.{◌∙◌}
 use native.Mathlib.Numerals.{add-one}
-use lib.ListN.{take, length-set}
-use lib.Seq.{length-take-le}
+use lib.ListN.{length, length-set}
 use Rattle.laws.proofs.Tables.{part_stored}
 use Rattle.row13_plan.proofs.put_code.Goals as goal
 
 pub returns : goal.returns
-returns c =
-    let n = length-take-le c.args.long c.args.code.now c.requires.0 in
-    part_stored _ _ (take c.args.long c.args.code.now) (c.args.from + 1) _ c.copy_from_slice.ensures.after (omega arith) (omega (arith, length-set c.args.plan.now c.args.from c.args.long)) ∙ rw (add-one c.args.from)
+returns c = part_stored _ _ c.args.code.now (c.args.from + 1) _ c.copy_from_slice.ensures.after (omega arith) (omega (arith, length-set c.args.plan.now c.args.from (length c.args.code.now))) ∙ rw (add-one c.args.from)

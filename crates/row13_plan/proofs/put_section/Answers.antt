@@ -9,7 +9,7 @@ pub bounds-plan-from : goal.bounds-plan-from
 bounds-plan-from c =
     let args = c.args in
     let pre = c.requires in
-    omega (arith, section_room args.section args.items.now args.n args.lengths.now c.mark-op.ensures args.from pre.n_in_bounds)
+    omega (arith, section_room args.section args.items.now args.lengths.now c.mark-op.ensures args.from pre.n_in_bounds)
 
 pub loop-i-init : goal.loop-i-init
 loop-i-init c = (omega arith, turn_start)
@@ -24,10 +24,10 @@ put_item-at-requires c =
       few = pre.few;
       i_bound = (
         omega arith,
-        turn_room pre.few loop.invariant.1 (omega arith) c.if-items-i.true
+        turn_room loop.invariant.1 (omega arith) c.if-items-i.true
             (omega (
               arith,
-              section_room args.section args.items.now args.n args.lengths.now mark.ensures args.from pre.n_in_bounds,
+              section_room args.section args.items.now args.lengths.now mark.ensures args.from pre.n_in_bounds,
               loop.invariant.1.long,
               length-set args.plan.now args.from count.result,
             )),
@@ -39,8 +39,8 @@ loop-i-preserved c =
     let pre = c.requires in
     let loop = c.loop-i in
     elim c.if-items-i.branch [
-      | then-items-i w ↦ (omega arith, turn_as w.plan-is w.at-is w.k-is (omega arith) (turn_more pre.few loop.invariant.1 (omega arith) w.if-items-i.true w.put_item-at.ensures))
-      | else-items-i w ↦ (omega arith, turn_as w.plan-is w.at-is w.k-is (omega arith) (turn_past pre.few loop.invariant.1 (omega arith) w.if-items-i.false))
+      | then-items-i w ↦ (omega arith, turn_as w.plan-is w.at-is w.k-is (omega arith) (turn_more loop.invariant.1 (omega arith) w.if-items-i.true w.put_item-at.ensures))
+      | else-items-i w ↦ (omega arith, turn_as w.plan-is w.at-is w.k-is (omega arith) (turn_past loop.invariant.1 (omega arith) w.if-items-i.false))
     ]
 
 pub shape_of-plan : goal.shape_of-plan
@@ -51,5 +51,5 @@ returns c =
     let args = c.args in
     let pre = c.requires in
     let mark = c.mark-op in
-    section_put args.section args.items.now args.n args.lengths.now mark.ensures pre.few c.count.ensures.0
+    section_put args.section args.items.now args.lengths.now mark.ensures c.count.ensures.0
     c.loop-i.invariant.1 (omega arith)

@@ -1,5 +1,7 @@
 -- `section_items::put_item` meets its contract, section by section. Assumes nothing.
-use Rattle.std.proofs.Common.{length, arith, length-set}
+use Rattle.std.proofs.Common.{ℕ, List, ◌+◌, ◌%◌, ◌^◌, ap, ◌∙◌, length, arith, length-set}
+use Rattle.section_items.specs.Items.{items_of, rules_up_to, mask_up_to}
+use Rattle.section_items.proofs.Items.{rest}
 use Rattle.section_items.proofs.Sections.{width_as, put_port, put_memory, put_group, put_rule}
 use Rattle.section_items.proofs.put_item.Goals as goal
 
@@ -31,7 +33,9 @@ pub returns-in-Memories : goal.returns-in-Memories
 returns-in-Memories c = put_memory _ _ _ _ _ _ c.in-Memories.is
 
 pub returns-in-Groups : goal.returns-in-Groups
-returns-in-Groups c = put_group _ _ _ _ _ _ c.in-Groups.is c.rules.ensures
+returns-in-Groups c = put_group _ _ _ _ _ _ c.in-Groups.is (c.rules.ensures ∙ ap (λ (l : List ℕ). rules_up_to (items_of l)) (rest c.args.items.now (c.args.i + 6)))
 
 pub returns-in-Rules : goal.returns-in-Rules
-returns-in-Rules c = put_rule _ _ _ _ _ _ c.in-Rules.is c.mask.ensures c.mask-in-Rules.ensures c.length_at.ensures
+returns-in-Rules c =
+    let r = rest c.args.items.now (c.args.i + 6) in
+    put_rule _ _ _ _ _ _ c.in-Rules.is (c.mask.ensures ∙ ap (λ (l : List ℕ). mask_up_to 1 (items_of l) % 2 ^ 32) r) (c.mask-in-Rules.ensures ∙ ap (λ (l : List ℕ). mask_up_to 0 (items_of l) % 2 ^ 32) r) c.length_at.ensures
