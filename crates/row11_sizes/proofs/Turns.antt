@@ -16,6 +16,7 @@ use Rattle.size_walk.specs.Effects.{sooner_of, effect_of}
 use Rattle.size_walk.specs.Steps.{State, seen_of, width_on, start_on, emits_of, held_of, around_of, pick, ended_of, room, step_of, onward_of, walk, begin, Holds}
 use Rattle.size_walk.specs.Bounds.{effect_at, step_at, up_to, Bounded}
 use Rattle.laws.specs.Tables.{Kept}
+use Rattle.row11_sizes.specs.declared.Tables.{Tables}
 use Rattle.laws.proofs.Tables.{stored}
 use Rattle.item_effects.proofs.Tables.{pick_within}
 use Rattle.words.specs.Found.{Place}
@@ -166,12 +167,10 @@ module _ (op p a : ℕ) (f : Place) (w o n : ℕ) (far r : Far) (is : r ≡ onwa
 
 -- ---- the walk's tables after i items
 
-pub record Walked (items code₀ lengths₀ widths starts slots code lengths : List ℕ) (far : Far) (i : ℕ) : Type 0 where
-  pub many_widths : length widths ≡ 8192
-  pub many_starts : length starts ≡ 8192
+pub record Walked (items code₀ lengths₀ : List ℕ) (tables : Tables) (code lengths : List ℕ) (far : Far) (i : ℕ) : Type 0 where
   pub long : length code ≡ length code₀
   pub ends : length lengths ≡ length lengths₀
   pub bounded : Bounded far i
   pub coded : Kept 0 far.out code₀ code
   pub ended : Kept 0 far.rules lengths₀ lengths
-  pub holds : Holds widths starts slots code lengths far (up_to items i)
+  pub holds : Holds tables.widths tables.starts tables.slots code lengths far (up_to items i)

@@ -15,34 +15,44 @@ use size_walk::{Far, onward};
 // A slot for each `val` of a rule.
 const VALS: usize = language::Plan::VALS as usize;
 
+// The walk's own tables: the widths and first bytes of the expressions that wait, and the widths that the slots hold.
+#[derive(Drop)]
+struct Tables {
+    widths: [u32; settled::ITEMS],
+    starts: [u32; settled::ITEMS],
+    slots: [u32; VALS],
+}
+
 // Item i, in the tables.
 fn step(
     items: &[u32],
     i: usize,
-    widths: &mut [u32],
-    starts: &mut [u32],
-    slots: &mut [u32],
+    tables: &mut Tables,
     code: &mut [u32],
     lengths: &mut [u32],
     far: Far,
 ) -> Far
     requires i_lt_most_settled { (i < most_settled) × (6 * i + 6 ≤ length items.now) × (4 * i + 4 ≤ length code.old) }
-    requires widths_len { (length widths.old ≡ most_settled) × (length starts.old ≡ most_settled) × (length lengths.old ≡ room) }
+    requires lengths_len { length lengths.old ≡ room }
     requires bounded { Bounded far i }
     ensures bounds { Bounded result (i + 1) }
     ensures code { Kept far.out result.out code.old code.new }
     ensures lengths { Kept far.rules result.rules lengths.old lengths.new }
-    ensures holds { (s : State) → Holds widths.old starts.old slots.old code.old lengths.old far s
-        → Holds widths.new starts.new slots.new code.new lengths.new result (step_at s items.now i) }
+    ensures holds { (s : State) → Holds tables.old.widths tables.old.starts tables.old.slots code.old lengths.old far s
+        → Holds tables.new.widths tables.new.starts tables.new.slots code.new lengths.new result (step_at s items.now i) }
 {
     let op = part(items, i, 0);
     let p = part(items, i, 1);
     let a = part(items, i, 2);
-    let e = effect_at(items, i, seen(widths, starts, slots, a, far));
-    hold(op, a, e.emits, slots);
+    let e = effect_at(
+        items,
+        i,
+        seen(&tables.widths, &tables.starts, &tables.slots, a, far),
+    );
+    hold(op, a, e.emits, &mut tables.slots);
     let out = emitted(e.emits, code, far.out);
     let rules = ended(op, lengths, far.rules, out - far.rule);
-    let waits = left(e, far.waits, widths, starts);
+    let waits = left(e, far.waits, &mut tables.widths, &mut tables.starts);
     onward(op, p, a, e.fault, waits, out, rules, far)
 }
 
@@ -53,9 +63,11 @@ pub fn fault(items: &[u32], many: usize, code: &mut [u32], lengths: &mut [u32]) 
     ensures code { code.new ≡ laid (walked items.now many).code code.old }
     ensures lengths { lengths.new ≡ laid (walked items.now many).lengths lengths.old }
 {
-    let mut widths = [0u32; settled::ITEMS];
-    let mut starts = [0u32; settled::ITEMS];
-    let mut slots = [0u32; VALS];
+    let mut tables = Tables {
+        widths: [0; settled::ITEMS],
+        starts: [0; settled::ITEMS],
+        slots: [0; VALS],
+    };
     let mut far = Far {
         waits: 0,
         out: 0,
@@ -67,16 +79,7 @@ pub fn fault(items: &[u32], many: usize, code: &mut [u32], lengths: &mut [u32]) 
         rule: 0,
     };
     for i in 0..many {
-        far = step(
-            items,
-            i,
-            &mut widths,
-            &mut starts,
-            &mut slots,
-            code,
-            lengths,
-            far,
-        );
+        far = step(items, i, &mut tables, code, lengths, far);
     }
     far.first
 }

@@ -1,9 +1,9 @@
 -- `row11_sizes::fault` meets its contract. The loop's invariant: the tables hold the state after the items passed, within its bounds,
 -- and are past it as they were. Assumes nothing.
 use mathlib.Core.Path.{◌≡◌, refl, ap, ◌∙◌}
-use Prim.Native.Nat.{ℕ, ◌*◌}
+use Prim.Native.Nat.{◌*◌}
 use native.Mathlib.Omega.{arith}
-use lib.ListN.{take, length-replicate}
+use lib.ListN.{take}
 use Rattle.plan.specs.Waits.{top}
 use Rattle.size_walk.specs.Steps.{walk, begin}
 use Rattle.size_walk.specs.Bounds.{up_to}
@@ -14,8 +14,6 @@ use Rattle.row11_sizes.proofs.fault.Goals as goal
 pub loop-i-init : goal.loop-i-init
 unfolding top up_to begin
 loop-i-init c = record {
-  many_widths = length-replicate {A = ℕ} 8192 0;
-  many_starts = length-replicate {A = ℕ} 8192 0;
   long = refl;
   ends = refl;
   bounded = record { waits = omega arith; out = omega arith; cases = omega arith; rule = omega arith; rules = omega arith };
@@ -41,14 +39,12 @@ pub step-far-requires : goal.step-far-requires
 step-far-requires c =
     let pre = c.requires in
     let l = c.loop-i.invariant in
-    let t = c.loop-i-test.true in record { i_lt_most_settled = (omega (arith, pre.0), omega (arith, pre.1), omega (arith, pre.2, l.long)); widths_len = (l.many_widths, l.many_starts, l.ends ∙ pre.3); bounded = l.bounded }
+    let t = c.loop-i-test.true in record { i_lt_most_settled = (omega (arith, pre.0), omega (arith, pre.1), omega (arith, pre.2, l.long)); lengths_len = l.ends ∙ pre.3; bounded = l.bounded }
 
 pub loop-i-preserved : goal.loop-i-preserved
 loop-i-preserved c =
     let step = c.step-far in
     let l = c.loop-i.invariant in record {
-      many_widths = step.auto.widths ∙ l.many_widths;
-      many_starts = step.auto.starts ∙ l.many_starts;
       long = step.auto.code ∙ l.long;
       ends = step.auto.lengths ∙ l.ends;
       bounded = step.ensures.bounds;

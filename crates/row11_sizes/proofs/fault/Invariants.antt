@@ -4,4 +4,4 @@ use Rattle.row11_sizes.proofs.Turns.{Walked}
 use Rattle.row11_sizes.proofs.fault.Given as goal
 
 abbrev pub invariant-loop-i : goal.invariant-loop-i
-invariant-loop-i l = Walked l.items l.initial.code l.initial.lengths l.widths l.starts l.slots l.code l.lengths l.far l.i
+invariant-loop-i l = Walked l.items l.initial.code l.initial.lengths l.tables l.code l.lengths l.far l.i

@@ -19,7 +19,7 @@ pub part-a-requires : goal.part-a-requires
 part-a-requires c = let pre = c.requires in (pre.i_lt_most_settled.0, pre.i_lt_most_settled.1, omega arith)
 
 pub seen-requires : goal.seen-requires
-seen-requires c = let pre = c.requires in let b = pre.bounded.waits in (omega (arith, pre.i_lt_most_settled.0, pre.widths_len.0), omega (arith, pre.i_lt_most_settled.0, pre.widths_len.1))
+seen-requires c = let pre = c.requires in let b = pre.bounded.waits in (omega (arith, pre.i_lt_most_settled.0), omega (arith, pre.i_lt_most_settled.0))
 
 pub effect_at-e-requires : goal.effect_at-e-requires
 effect_at-e-requires c = let pre = c.requires in let b = pre.bounded.cases in let e = c.seen.ensures.cases in (pre.i_lt_most_settled.0, pre.i_lt_most_settled.1, omega (arith, pre.i_lt_most_settled.0))
@@ -36,12 +36,12 @@ ended-rules-requires c =
     let effect-at = c.effect_at-e in
     let emitted = c.emitted-out in
     let b = pre.bounded in
-    let e = emitted.ensures.0 in let f = emits_few effect-at.result.emits in (b.rules, pre.widths_len.2, omega (arith, pre.i_lt_most_settled.0, b.out))
+    let e = emitted.ensures.0 in let f = emits_few effect-at.result.emits in (b.rules, pre.lengths_len, omega (arith, pre.i_lt_most_settled.0, b.out))
 
 pub left-waits-requires : goal.left-waits-requires
 left-waits-requires c =
     let pre = c.requires in
-    let b = pre.bounded.waits in (omega (arith, pre.i_lt_most_settled.0, pre.widths_len.0), omega (arith, pre.i_lt_most_settled.0, pre.widths_len.1))
+    let b = pre.bounded.waits in (omega (arith, pre.i_lt_most_settled.0), omega (arith, pre.i_lt_most_settled.0))
 
 pub onward-requires : goal.onward-requires
 onward-requires c =
@@ -83,7 +83,7 @@ returns c =
             long = out;
             coded = emitted.ensures.1;
             few = omega
-                (arith, the-ended.auto.lengths, the-ended.ensures.few, pre.widths_len.2);
+                (arith, the-ended.auto.lengths, the-ended.ensures.few, pre.lengths_len);
             ended = the-ended.ensures.lengths;
           })
           _ is;
