@@ -101,8 +101,8 @@ fn fault_at(row: u32, place: u32) {
 fn read(actor: &[u8]) {
     let mut tape = [0u32; NUMBERS];
     match syntax::read(actor, &mut tape) {
-        syntax::Said::Tape(n) => show_tape(&tape, n),
-        syntax::Said::Refused(row, place) => fault_at(row, place),
+        Ok(n) => show_tape(&tape, n),
+        Err(why) => fault_at(why.row, why.place),
     }
 }
 
