@@ -51,11 +51,7 @@ pub fn odd(a: u64) -> u64
 pub fn plain_width(n: u64) -> u32
     ensures { result ≡ values_plain_width n }
 {
-    if n == 0 {
-        1
-    } else {
-        64 - n.leading_zeros()
-    }
+    if n == 0 { 1 } else { 64 - n.leading_zeros() }
 }
 
 // How many ports a mask has present.

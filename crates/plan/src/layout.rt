@@ -15,7 +15,7 @@ pub fn place(x: u32) -> usize
     x as usize
 }
 
-// Bit k of a mask, 0 past its end.
+// Bit k of a mask, 0 past its end; `checked_shr` with its 0 would say it no plainer.
 #[tactic(auto, using(crate::proofs::Lists::bit_past), unfolding(language::specs::Values::bit_of))]
 pub fn bit(a: u32, k: u32) -> u32
     ensures { result ≡ bit_of a k }

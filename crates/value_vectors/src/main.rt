@@ -87,7 +87,7 @@ fn print(t: Option<u64>) -> bool {
     }
 }
 
-// Every line in turn.
+// Every line in turn: a `while`, since a line itself tells where the next begins.
 fn run(s: &[u8]) {
     let mut at = 0;
     while at < s.len() {
