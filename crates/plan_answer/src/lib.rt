@@ -28,13 +28,7 @@ fn total(lengths: &[u32]) -> usize
 }
 
 // The plan of an actor with no fault: its length, or row 13.
-pub fn made(
-    items: &[u32],
-    many: usize,
-    code: &[u32],
-    lengths: &[u32],
-    plan: &mut [u32],
-) -> Answer
+pub fn made(items: &[u32], many: usize, code: &[u32], lengths: &[u32], plan: &mut [u32]) -> Answer
     requires { (many ≤ most_settled) × (6 * many ≤ length items.now) × (length lengths.now ≤ limits.rules) × (sums lengths.now ≤ length code.now) × (length code.now ≤ 4 * most_settled) }
     ensures answer { result ≡ made_of (plan_from items.now many code.now lengths.now) plan.old }
     ensures table { plan.new ≡ table_with (plan_from items.now many code.now lengths.now) plan.old }

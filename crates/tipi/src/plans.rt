@@ -77,16 +77,7 @@ pub fn planned(
 {
     let mut widths = [0u32; WIDTHS];
     match row10_widths::solved(text, tape, n, btext, table, lines, &mut widths) {
-        Some(w) => sized(
-            text,
-            tape,
-            n,
-            btext,
-            table,
-            lines,
-            &widths[..w],
-            plan,
-        ),
+        Some(w) => sized(text, tape, n, btext, table, lines, &widths[..w], plan),
         None => refused(10, Text::Actor, 0),
     }
 }
