@@ -33,9 +33,7 @@ pub fn growth(given: Given, i: usize) -> Grows
             let x = value(given.text, wide(place), given.bound);
             Grows::Leaf(leaf(wide(x) * 8))
         }
-        PORT => Grows::Leaf(leaf(
-            numbered(given.text, tape, given.many, SIGNED, place) * 8 + 1,
-        )),
+        PORT => Grows::Leaf(leaf(numbered(given.text, tape, given.many, SIGNED, place) * 8 + 1)),
         LOG => Grows::End(2),
         FLOOR => Grows::End(3),
         CEIL => Grows::End(4),

@@ -70,6 +70,7 @@ pub fn strangers(text: &[u8], tape: &[u32], n: usize, bound: Bound) -> Option<u3
 {
     let many = n / 3;
     let widths = bound.lines.widths;
+    let end = bound.end();
     let values = strange(
         text,
         tape,
@@ -77,19 +78,10 @@ pub fn strangers(text: &[u8], tape: &[u32], n: usize, bound: Bound) -> Option<u3
         Class::Environment,
         bound,
         widths,
-        bound.end(),
+        end,
         None,
     );
-    strange(
-        text,
-        tape,
-        many,
-        Class::Declared,
-        bound,
-        0,
-        widths,
-        values,
-    )
+    strange(text, tape, many, Class::Declared, bound, 0, widths, values)
 }
 
 // Whether a declaration has no type: its item's value counts 1 for a type and 2 for an input.
@@ -111,8 +103,7 @@ fn open_at(text: &[u8], tape: &[u32], bound: Bound, i: usize) -> bool
     let end = bound.end();
     match tape[3 * i] {
         ENVIRONMENT | VALUE => found(text, place, bound, widths, end) == end,
-        DECLARED => typeless(tape[3 * i + 2])
-            && found(text, place, bound, 0, widths) == widths,
+        DECLARED => typeless(tape[3 * i + 2]) && found(text, place, bound, 0, widths) == widths,
         MEMORY => typeless(tape[3 * i + 2]),
         _ => false,
     }

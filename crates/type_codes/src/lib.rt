@@ -50,9 +50,7 @@ fn type_code(
         if stops(text, g, role, wide(tape[3 * i + 1])) {
             return kept(role, len);
         }
-        len = grown(
-            text, tape, bound, ports, i, role, code, at, len,
-        );
+        len = grown(text, tape, bound, ports, i, role, code, at, len);
         g = left(g, role);
     }
     0
@@ -122,16 +120,7 @@ fn port_code(
     if j < widths {
         return single(code, at, bound.table[3 * j + 2]);
     }
-    let len = type_code(
-        text,
-        tape,
-        n,
-        bound,
-        ports,
-        Goal::Port(place),
-        code,
-        at,
-    );
+    let len = type_code(text, tape, n, bound, ports, Goal::Port(place), code, at);
     some(code, at, len)
 }
 
