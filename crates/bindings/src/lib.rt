@@ -3,6 +3,8 @@
 // table for each (its name's place and length, its width or value), or the first byte at which no right text continues.
 #![tactic(auto)]
 
+mod bound;
+
 ghost use Rattle.language.specs.Limits.{limits};
 ghost use Rattle.std.specs.Prelude.{◌≡◌, [], ◌+◌, ◌*◌, ◌≤◌, ◌<◌, length, drop};
 ghost use Rattle.language.specs.Bindings.{lines as lines_of, section as section_of};
@@ -14,6 +16,7 @@ ghost use Rattle.bindings.specs.Steps.{ReadsLine, ReadsLines, WidthsRead};
 
 use binding_names::name;
 use binding_numbers::{Lost, Step, Went, blank_number, number_line};
+pub use bound::Bound;
 
 // How many lines of the table bind widths, and how many after them values.
 #[derive(Clone, Copy)]

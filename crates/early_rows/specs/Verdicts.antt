@@ -7,7 +7,7 @@ use Rattle.language.specs.Tree.{Actor}
 use Rattle.language.specs.Bindings.{Bindings}
 use Rattle.language.specs.Reading.{Early, stopped, through, judged}
 use Rattle.tape.specs.Row.{Tells}
-use Rattle.bindings.specs.declared.Lines.{Lines}
+use Rattle.bindings.specs.declared.bound.Bound.{Bound}
 use Rattle.row09_bindings.specs.Lines.{Binds}
 use Rattle.words.specs.Found.{Place}
 use Rattle.language.specs.declared.Refusal.{Refusal}
@@ -33,11 +33,11 @@ verdict_by n t (Some p) = Stopped n t p
 verdict_by n t None = Through
 
 -- a tape and a table that hold an actor and its bindings
-pub record TextsHeld (text t : List ℕ) (n : ℕ) (btext table : List ℕ) (lines : Lines) (ws : List Word) (a : Actor) (b : Bindings) : Type 0 where
+pub record TextsHeld (text t : List ℕ) (n : ℕ) (bound : Bound) (ws : List Word) (a : Actor) (b : Bindings) : Type 0 where
   pub short : length text ≤ limits.actor
   pub tells : Tells text t n ws a
-  pub binds : Binds btext table lines b
+  pub binds : Binds bound.text.now bound.table.now bound.lines b
 
 -- the verdict is that of the actor and the bindings that they hold
-abbrev pub FirstTold : (text t : List ℕ) (n : ℕ) (btext table : List ℕ) → Lines → Verdict → Type 0
-FirstTold text t n btext table lines r = (ws : List Word) (a : Actor) (b : Bindings) → TextsHeld text t n btext table lines ws a b → r ≡ verdict_of (judged ws a b)
+abbrev pub FirstTold : (text t : List ℕ) (n : ℕ) → Bound → Verdict → Type 0
+FirstTold text t n bound r = (ws : List Word) (a : Actor) (b : Bindings) → TextsHeld text t n bound ws a b → r ≡ verdict_of (judged ws a b)

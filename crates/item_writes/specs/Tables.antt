@@ -74,7 +74,7 @@ plain_out o p v =
 
 -- what is looked up by a text, a tape and widths, whatever the bindings and the state
 pub record Looked (g : Given) {A : Type 0} (r : A) (f : Around → State → A) : Type 0 where
-  pub is : (btext table : List ℕ) (lines : Lines) (s : State) → r ≡ f (around_of g.text.now g.tape.now g.many.items btext table lines g.widths.now) s
+  pub is : (btext table : List ℕ) (lines : Lines) (s : State) → r ≡ f (around_of g.text.now g.tape.now g.many btext table lines g.widths.now) s
 
 -- an item that names nothing
 pub record Unnamed (o : ℕ) : Type 0 where
@@ -128,23 +128,23 @@ pub record Bounded (starts : List ℕ) (i : ℕ) (far : Far) : Type 0 where
 
 -- what is around the items of the tape that is given, and the settled items on it
 abbrev pub around_in : Given → Around
-around_in g = around_of g.text.now g.tape.now g.many.items g.btext.now g.table.now g.many.lines g.widths.now
+around_in g = around_of g.text.now g.tape.now g.many g.bound.text.now g.bound.table.now g.bound.lines g.widths.now
 
 abbrev pub settled_in : Given → List ℕ
-settled_in g = settled_on g.text.now g.tape.now g.many.items g.btext.now g.table.now g.many.lines g.widths.now
+settled_in g = settled_on g.text.now g.tape.now g.many g.bound g.widths.now
 
 -- item i is one of those given, and the tables hold the state before it
 abbrev pub Lent : Given → (code starts : List ℕ) → ℕ → Far → Type 0
-Lent g code starts i far = (i < g.many.items) × (i ≤ length code) × (i ≤ length starts) × Bounded starts i far
+Lent g code starts i far = (i < g.many) × (i ≤ length code) × (i ≤ length starts) × Bounded starts i far
 
 -- the same, with room for what item i does
 abbrev pub Roomy : Given → (code starts out : List ℕ) → ℕ → Far → Type 0
 Roomy g code starts out i far =
-    (i < g.many.items) × (length code ≡ Tape.most_items) × (length starts ≡ Tape.most_items) × (6 * i + 6 ≤ length out) × Bounded starts i far
+    (i < g.many) × (length code ≡ Tape.most_items) × (length starts ≡ Tape.most_items) × (6 * i + 6 ≤ length out) × Bounded starts i far
 
 -- what item i does to the types that wait, whatever the widths
 abbrev pub Grown : Grows → Given → ℕ → Type 0
-Grown r g i = (ws : List ℕ) (l : List (List ℕ)) → grown_by r l ≡ grown (around_of g.text.now g.tape.now g.many.items g.btext.now g.table.now g.many.lines ws) (op_at g.tape.now i) (place_at g.tape.now i) (value_at g.tape.now i) l
+Grown r g i = (ws : List ℕ) (l : List (List ℕ)) → grown_by r l ≡ grown (around_of g.text.now g.tape.now g.many g.bound.text.now g.bound.table.now g.bound.lines ws) (op_at g.tape.now i) (place_at g.tape.now i) (value_at g.tape.now i) l
 
 -- what item i writes, whatever was written before
 abbrev pub Writes : Written → Given → (code starts : List ℕ) → ℕ → Far → Type 0
@@ -155,7 +155,7 @@ Writes w g code starts i far =
 abbrev pub Reads : Written → Given → (i p lets vals : ℕ) → Type 0
 Reads w g i p lets vals =
     (btext table : List ℕ) (lines : Lines) (s : State) → s.lets ≡ between g.text.now g.tape.now Class.Val lets i → s.vals ≡ vals
-    → numbers_of w ≡ read_out (around_of g.text.now g.tape.now g.many.items btext table lines g.widths.now) s p
+    → numbers_of w ≡ read_out (around_of g.text.now g.tape.now g.many btext table lines g.widths.now) s p
 
 -- what is written of an item that names nothing, by the types that wait
 abbrev pub WritesTyped : Written → (o p v : ℕ) → (code starts ws : List ℕ) → Waits → ℕ → Type 0

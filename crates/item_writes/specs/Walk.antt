@@ -9,6 +9,7 @@ use Rattle.tape.specs.Tape as Tape
 use Rattle.tape.specs.declared.Class.{Class}
 use Rattle.tape.specs.Walk.{op_at, place_at, value_at, between}
 use Rattle.bindings.specs.declared.Lines.{Lines}
+use Rattle.bindings.specs.declared.bound.Bound.{Bound}
 use Rattle.row09_bindings.specs.Lines.{lines_on}
 use Rattle.type_value.specs.Walk.{value_of}
 use Rattle.settled.specs.Form.{BITS, START, RANGE, READ, HELD, CELL, WRITE, ASSIGN, TYPED, six}
@@ -168,5 +169,5 @@ around_of text t many btext table lines ws =
     }
 
 -- the settled items of the actor on a tape of so many items
-abbrev pub settled_on : (text t : List ℕ) → ℕ → (btext table : List ℕ) → Lines → List ℕ → List ℕ
-settled_on text t many btext table lines ws = (walked (around_of text t many btext table lines ws) t many).out
+abbrev pub settled_on : (text t : List ℕ) → ℕ → Bound → List ℕ → List ℕ
+settled_on text t many bound ws = (walked (around_of text t many bound.text.now bound.table.now bound.lines ws) t many).out

@@ -7,16 +7,8 @@ mod given;
 mod nodes;
 pub mod writes;
 
-use bindings::Lines;
 pub use given::Given;
 pub use nodes::{grow, growth, without};
-
-// How many items the tape has, and how many lines the bindings.
-#[derive(Clone, Copy)]
-pub struct Counts {
-    pub items: usize,
-    pub lines: Lines,
-}
 
 // The types that wait: how many, and how many nodes they have together.
 #[derive(Clone, Copy)]

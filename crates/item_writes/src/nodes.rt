@@ -2,7 +2,6 @@
 ghost use Rattle.tape.specs.Tape.{most_items};
 ghost use Rattle.std.specs.Prelude.{◌≡◌, List, ℕ, ◌+◌, ◌-◌, ◌*◌, ◌≤◌, ◌<◌, length};
 ghost use Rattle.language.specs.Types.{width_of, position_of};
-ghost use Rattle.bindings.specs.Table.{Lined};
 ghost use Rattle.type_value.specs.Walk.{value_of};
 ghost use Rattle.settled.specs.Settled.{placed};
 ghost use Rattle.looked_up.specs.Lookup.{operand};
@@ -23,7 +22,7 @@ fn leaf(k: usize) -> u32
 
 // What an item does to the types that wait.
 pub fn growth(given: Given, i: usize) -> Grows
-    requires { i < given.many.items }
+    requires { i < given.many }
     ensures { Grown result given.entry i }
 {
     let tape = given.tape;
@@ -31,18 +30,10 @@ pub fn growth(given: Given, i: usize) -> Grows
     match tape[3 * i] {
         NUMBER => Grows::Leaf(leaf(wide(tape[3 * i + 2]) * 8)),
         ENVIRONMENT => {
-            let x = value(
-                given.text,
-                wide(place),
-                given.btext,
-                given.table,
-                given.many.lines,
-            );
+            let x = value(given.text, wide(place), given.bound);
             Grows::Leaf(leaf(wide(x) * 8))
         }
-        PORT => Grows::Leaf(leaf(
-            numbered(given.text, tape, given.many.items, SIGNED, place) * 8 + 1,
-        )),
+        PORT => Grows::Leaf(leaf(numbered(given.text, tape, given.many, SIGNED, place) * 8 + 1)),
         LOG => Grows::End(2),
         FLOOR => Grows::End(3),
         CEIL => Grows::End(4),

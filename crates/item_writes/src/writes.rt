@@ -5,7 +5,6 @@ ghost use Rattle.language.specs.Widths.{value_in};
 ghost use Rattle.sized_constants.specs.Constant.{amount_of};
 ghost use Rattle.placed.specs.Placed.{name_from};
 ghost use Rattle.tape.specs.Tape.{SIGNED, MEMORY, PRESENT, most_items};
-ghost use Rattle.bindings.specs.Table.{Lined};
 ghost use Rattle.row09_bindings.specs.Lines.{lines_on};
 ghost use Rattle.settled.specs.Form.{six};
 ghost use Rattle.settled.specs.Settled.{amount as amount_numbers};
@@ -43,15 +42,9 @@ fn amount(place: u32, x: Option<u64>) -> Option<[u32; 6]>
 
 // The value of an environment name.
 fn bound(given: Given, place: u32) -> Option<[u32; 6]>
-    ensures { numbers_of result ≡ amount_numbers place (value_in (lines_on given.entry.btext.now given.entry.table.now given.entry.many.lines.widths given.entry.many.lines.values) (name_from given.entry.text.now place)) }
+    ensures { numbers_of result ≡ amount_numbers place (value_in (lines_on given.entry.bound.text.now given.entry.bound.table.now given.entry.bound.lines.widths given.entry.bound.lines.values) (name_from given.entry.text.now place)) }
 {
-    let x = value(
-        given.text,
-        wide(place),
-        given.btext,
-        given.table,
-        given.many.lines,
-    );
+    let x = value(given.text, wide(place), given.bound);
     amount(place, Some(u64::from(x)))
 }
 
@@ -59,7 +52,7 @@ fn bound(given: Given, place: u32) -> Option<[u32; 6]>
 fn port(given: Given, op: u32, place: u32) -> Option<[u32; 6]>
     ensures { Looked given.entry (numbers_of result) (λ a s. port_out a s op place) }
 {
-    let k = numbered(given.text, given.tape, given.many.items, SIGNED, place);
+    let k = numbered(given.text, given.tape, given.many, SIGNED, place);
     Some([op, place, narrow(k), 0, 0, width_of(given.widths, k)])
 }
 
@@ -67,14 +60,14 @@ fn port(given: Given, op: u32, place: u32) -> Option<[u32; 6]>
 fn memory_width(given: Given, place: u32) -> u32
     ensures { Looked given.entry result (λ a s. memory_width_out a s place) }
 {
-    let k = numbered(given.text, given.tape, given.many.items, SIGNED, place);
-    let ports = count(given.tape, given.many.items, SIGNED);
+    let k = numbered(given.text, given.tape, given.many, SIGNED, place);
+    let ports = count(given.tape, given.many, SIGNED);
     if k < ports {
         return width_of(given.widths, k);
     }
     width_of(
         given.widths,
-        ports + numbered(given.text, given.tape, given.many.items, MEMORY, place),
+        ports + numbered(given.text, given.tape, given.many, MEMORY, place),
     )
 }
 
@@ -82,22 +75,22 @@ fn memory_width(given: Given, place: u32) -> u32
 fn cell(given: Given, op: u32, place: u32) -> Option<[u32; 6]>
     ensures { Looked given.entry (numbers_of result) (λ a s. cell_out a s op place) }
 {
-    let k = numbered(given.text, given.tape, given.many.items, MEMORY, place);
-    let first = narrow(cells_before(given.tape, given.many.items, k));
+    let k = numbered(given.text, given.tape, given.many, MEMORY, place);
+    let first = narrow(cells_before(given.tape, given.many, k));
     let w = memory_width(given, place);
     Some([
         op,
         place,
         narrow(k),
         first,
-        size_of(given.tape, given.many.items, k),
+        size_of(given.tape, given.many, k),
         w,
     ])
 }
 
 // The latest `let` in force of a name, in its slot; where there is none, a port.
 fn read(given: Given, i: usize, place: u32, lets: usize, vals: usize) -> Option<[u32; 6]>
-    requires { (lets ≤ i) × (i < given.many.items) }
+    requires { (lets ≤ i) × (i < given.many) }
     ensures { Reads result given.entry i place lets vals }
 {
     let called = name(given.text, wide(place));
@@ -115,13 +108,13 @@ fn signed(given: Given, place: u32) -> Option<[u32; 6]>
 {
     let w = width_of(
         given.widths,
-        numbered(given.text, given.tape, given.many.items, SIGNED, place),
+        numbered(given.text, given.tape, given.many, SIGNED, place),
     );
     if said(
         given.text,
         given.tape,
         0,
-        given.many.items,
+        given.many,
         Class::Input,
         name(given.text, wide(place)),
     ) {
@@ -132,9 +125,9 @@ fn signed(given: Given, place: u32) -> Option<[u32; 6]>
 
 // An entry of a rule's list: its port, and whether it is to be present.
 fn entry(given: Given, place: u32, value: u32) -> Option<[u32; 6]>
-    ensures { numbers_of result ≡ six PRESENT place (operand (index (named given.entry.text.now given.entry.tape.now SIGNED 0 given.entry.many.items) (name_from given.entry.text.now place))) value 0 0 }
+    ensures { numbers_of result ≡ six PRESENT place (operand (index (named given.entry.text.now given.entry.tape.now SIGNED 0 given.entry.many) (name_from given.entry.text.now place))) value 0 0 }
 {
-    let port = narrow(numbered(given.text, given.tape, given.many.items, SIGNED, place));
+    let port = narrow(numbered(given.text, given.tape, given.many, SIGNED, place));
     Some([settled::PRESENT, place, port, value, 0, 0])
 }
 

@@ -147,15 +147,15 @@ value_none (b ∷ l) s e = go (same b.called.spelled s) (value_none l s) e
     go true f q = absurd (let z : ◌≡◌ {A = ℕ} 0 1 = cc in omega arith)
     go false f q = f q
 
-module _ (btext t : List ℕ) (k m : ℕ) (s : List ℕ) (r : ℕ) (f : r ≡ k + index (names_on btext t k (k + m - k)) s) where
-  same_lines : lines_on btext t k (k + m - k) ≡ lines_on btext t k m
-  same_lines = let e : k + m - k ≡ m = omega arith in ap (lines_on btext t k) e
+module _ (btext t : List ℕ) (k m : ℕ) (s : List ℕ) (r to : ℕ) (f : r ≡ k + index (names_on btext t k (to - k)) s) (q : to ≡ k + m) where
+  same_lines : lines_on btext t k (to - k) ≡ lines_on btext t k m
+  same_lines = let e : to - k ≡ m = omega arith in ap (lines_on btext t k) e
 
-  pub value_found : r < k + m → get_or t (3 * r + 2) 0 ≡ value_in (lines_on btext t k m) s
-  value_found h = sym (found_value btext t k (k + m) (omega arith) same_lines s f h)
+  pub value_found : r < to → get_or t (3 * r + 2) 0 ≡ value_in (lines_on btext t k m) s
+  value_found h = sym (found_value btext t k to (omega arith) same_lines s f h)
 
-  pub value_missing : k + m ≤ r → 0 ≡ value_in (lines_on btext t k m) s
-  value_missing h = sym (value_none (lines_on btext t k m) s (found_among btext t k (k + m) (omega arith) same_lines s f ∙ le-ltb r (k + m) h))
+  pub value_missing : to ≤ r → 0 ≡ value_in (lines_on btext t k m) s
+  value_missing h = sym (value_none (lines_on btext t k m) s (found_among btext t k to (omega arith) same_lines s f ∙ le-ltb r to h))
 
 -- ---- past the end of a table
 

@@ -1,5 +1,5 @@
 // What a name stands for, by number: ports in the order of the signature, memories and `val`s in their own, lines of the bindings.
-// What comes in: a text and its tape, a name or its place; of the bindings, their text and table. What goes out: where the name
+// What comes in: a text and its tape, a name or its place; the bindings. What goes out: where the name
 // stands among those of its kind, or how many they are where it does not; sizes, widths and values by such numbers.
 #![tactic(auto)]
 
@@ -10,11 +10,10 @@ ghost use Rattle.language.specs.Widths.{value_in};
 ghost use Rattle.placed.specs.Placed.{name_from};
 ghost use Rattle.tape.specs.Walk.{between};
 ghost use Rattle.tape.specs.declared.Class.{Class};
-ghost use Rattle.bindings.specs.Table.{Lined};
 ghost use Rattle.row09_bindings.specs.Lines.{lines_on};
 ghost use Rattle.looked_up.specs.Lookup.{operand, named, size_before, sizes_on, sum_of};
 
-use bindings::Lines;
+use bindings::Bound;
 use tape::{MEMORY, SIZE, VAL, name, wide};
 
 // A number as an operand: what 32 bits do not hold is outside.
@@ -91,14 +90,12 @@ pub fn latest(text: &[u8], tape: &[u32], from: usize, to: usize, called: &[u8]) 
 }
 
 // The value of the environment name at a place, by the lines of the bindings; 0 where none has it.
-#[tactic(auto, using(crate::proofs::Numbers::value_found, crate::proofs::Numbers::value_missing))]
-pub fn value(text: &[u8], place: usize, btext: &[u8], table: &[u32], lines: Lines) -> u32
-    requires { Lined lines table.now }
-    ensures { result ≡ value_in (lines_on btext.now table.now lines.widths lines.values) (name_from text.now place) }
+pub fn value(text: &[u8], place: usize, bound: Bound) -> u32
+    ensures { result ≡ value_in (lines_on bound.entry.text.now bound.entry.table.now bound.entry.lines.widths bound.entry.lines.values) (name_from text.now place) }
 {
-    let to = lines.widths + lines.values;
-    let i = row09_bindings::found(text, place, btext, table, lines.widths, to);
-    if i < to { table[3 * i + 2] } else { 0 }
+    let to = bound.end();
+    let i = row09_bindings::found(text, place, bound, bound.lines.widths, to);
+    if i < to { bound.table[3 * i + 2] } else { 0 }
 }
 
 // The size that the item before i gives; 1 where it gives none.

@@ -4,7 +4,7 @@ use Rattle.language.specs.Text.{among}
 use Rattle.placed.specs.Placed.{name_from}
 use Rattle.tape.specs.Tape.{ENVIRONMENT, VALUE, DECLARED, MEMORY}
 use Rattle.tape.specs.Walk.{op_at, place_at, value_at, marked}
-use Rattle.bindings.specs.declared.Lines.{Lines}
+use Rattle.bindings.specs.declared.bound.Bound.{Bound}
 use Rattle.row09_bindings.specs.Lines.{names_on}
 
 -- a declaration without a type, by its item's value: 1 for a type and 2 for an input
@@ -27,9 +27,9 @@ abbrev pub lacking : List (List ℕ) → List ℕ → Bool
 lacking names n = not (among names n)
 
 -- item i, by the lines of the bindings
-abbrev pub open_at : (text t btext table : List ℕ) → Lines → ℕ → Bool
-open_at text t btext table lines i = ask (lacking (names_on btext table lines.widths lines.values)) (lacking (names_on btext table 0 lines.widths)) true (op_at t i) (value_at t i) (name_from text (place_at t i))
+abbrev pub open_at : (text t : List ℕ) → Bound → ℕ → Bool
+open_at text t bound i = ask (lacking (names_on bound.text.now bound.table.now bound.lines.widths bound.lines.values)) (lacking (names_on bound.text.now bound.table.now 0 bound.lines.widths)) true (op_at t i) (value_at t i) (name_from text (place_at t i))
 
 -- the places of the open items among the first i
-abbrev pub opens_at : (text t btext table : List ℕ) → Lines → ℕ → List ℕ
-opens_at text t btext table lines i = marked (λ j. open_at text t btext table lines j) t i
+abbrev pub opens_at : (text t : List ℕ) → Bound → ℕ → List ℕ
+opens_at text t bound i = marked (λ j. open_at text t bound j) t i

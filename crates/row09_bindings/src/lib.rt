@@ -1,5 +1,5 @@
 // Row 9 of document 01: the bindings of an actor, read off its tape and the table of the bindings' lines.
-// What comes in: the actor's text and tape, the bindings' text and table. What goes out: the earliest line that binds no
+// What comes in: the actor's text and tape, and the bindings. What goes out: the earliest line that binds no
 // port or no environment name of the actor, and the earliest name of the actor that has neither a type nor a binding.
 #![tactic(auto)]
 
@@ -9,37 +9,30 @@ ghost use Rattle.language.specs.Text.{index};
 ghost use Rattle.language.specs.Widths.{strangers as strangers_of, unsettled as unsettled_of};
 ghost use Rattle.placed.specs.Placed.{name_from};
 ghost use Rattle.tape.specs.Walk.{place_at};
-ghost use Rattle.bindings.specs.Table.{Lined};
 ghost use Rattle.row09_bindings.specs.Lines.{name_on, names_on};
 ghost use Rattle.row09_bindings.specs.Walk.{no_type, open_at};
 ghost use Rattle.row09_bindings.specs.Told.{StrangeTold, FaultsTold};
 
-use bindings::Lines;
+use bindings::Bound;
 use tape::{Class, DECLARED, ENVIRONMENT, MEMORY, VALUE, said};
 
 // The name of a line.
-fn line_name<'a>(btext: &'a [u8], table: &[u32], i: usize) -> &'a [u8]
-    requires { 3 * i + 2 < length table.now }
-    ensures { result.now ≡ name_on btext.now table.now i }
+fn line_name<'a>(bound: Bound<'a>, i: usize) -> &'a [u8]
+    requires { 3 * i + 2 < length bound.table.now }
+    ensures { result.now ≡ name_on bound.entry.text.now bound.entry.table.now i }
 {
-    spans::part(btext, table[3 * i] as usize, table[3 * i + 1] as usize)
+    let table = bound.table;
+    spans::part(bound.text, table[3 * i] as usize, table[3 * i + 1] as usize)
 }
 
 // The first line, from one on and before another, that has the name at a place of the actor's text; `to` where none has.
-pub fn found(
-    text: &[u8],
-    place: usize,
-    btext: &[u8],
-    table: &[u32],
-    from: usize,
-    to: usize,
-) -> usize
-    requires { (from ≤ to) × (3 * to ≤ length table.now) }
-    ensures { result ≡ from + index (names_on btext.now table.now from (to - from)) (name_from text.now place) }
+pub fn found(text: &[u8], place: usize, bound: Bound, from: usize, to: usize) -> usize
+    requires { (from ≤ to) × (3 * to ≤ length bound.table.now) }
+    ensures { result ≡ from + index (names_on bound.entry.text.now bound.entry.table.now from (to - from)) (name_from text.now place) }
 {
     let called = tape::name(text, place);
     for i in from..to {
-        if spelling::same_bytes(line_name(btext, table, i), called) {
+        if spelling::same_bytes(line_name(bound, i), called) {
             return i;
         }
     }
@@ -52,61 +45,43 @@ fn strange(
     tape: &[u32],
     many: usize,
     class: Class,
-    btext: &[u8],
-    table: &[u32],
+    bound: Bound,
     from: usize,
     to: usize,
     rest: Option<u32>,
 ) -> Option<u32>
-    requires { (3 * many ≤ length tape.now) × (from ≤ to) × (3 * to ≤ length table.now) }
-    ensures { StrangeTold text.now tape.now many class btext.now table.now from to rest result }
+    requires { (3 * many ≤ length tape.now) × (from ≤ to) × (3 * to ≤ length bound.table.now) }
+    ensures { StrangeTold text.now tape.now many class bound.entry from to rest result }
 {
     let mut first = rest;
     // no chain over both sections: what `filter` asks of each turn of two chained ranges stayed open
     for i in (from..to).rev() {
-        if !said(text, tape, 0, many, class, line_name(btext, table, i)) {
-            first = words::earlier(table[3 * i], first);
+        if !said(text, tape, 0, many, class, line_name(bound, i)) {
+            first = words::earlier(bound.table[3 * i], first);
         }
     }
     first
 }
 
 // The earliest place in the bindings of row 9.
-pub fn strangers(
-    text: &[u8],
-    tape: &[u32],
-    n: usize,
-    btext: &[u8],
-    table: &[u32],
-    lines: Lines,
-) -> Option<u32>
-    requires n_in_bounds { n ≤ length tape.now }
-    requires lined { Lined lines table.now }
-    ensures { FaultsTold text.now tape.now n btext.now table.now lines strangers_of result }
+pub fn strangers(text: &[u8], tape: &[u32], n: usize, bound: Bound) -> Option<u32>
+    requires { n ≤ length tape.now }
+    ensures { FaultsTold text.now tape.now n bound.entry strangers_of result }
 {
     let many = n / 3;
+    let widths = bound.lines.widths;
+    let end = bound.end();
     let values = strange(
         text,
         tape,
         many,
         Class::Environment,
-        btext,
-        table,
-        lines.widths,
-        lines.widths + lines.values,
+        bound,
+        widths,
+        end,
         None,
     );
-    strange(
-        text,
-        tape,
-        many,
-        Class::Declared,
-        btext,
-        table,
-        0,
-        lines.widths,
-        values,
-    )
+    strange(text, tape, many, Class::Declared, bound, 0, widths, values)
 }
 
 // Whether a declaration has no type: its item's value counts 1 for a type and 2 for an input.
@@ -119,52 +94,36 @@ fn typeless(value: u32) -> bool
 
 // Whether item i names a port or memory with neither type nor binding, or an environment name without value.
 #[tactic(auto, using(crate::proofs::Tests::lacks_value, crate::proofs::Tests::lacks_width), unfolding(crate::specs::Walk::ask))]
-fn open_at(text: &[u8], tape: &[u32], btext: &[u8], table: &[u32], lines: Lines, i: usize) -> bool
-    requires { (3 * i + 2 < length tape.now) × Lined lines table.now }
-    ensures { result ≡ open_at text.now tape.now btext.now table.now lines i }
+fn open_at(text: &[u8], tape: &[u32], bound: Bound, i: usize) -> bool
+    requires { 3 * i + 2 < length tape.now }
+    ensures { result ≡ open_at text.now tape.now bound.entry i }
 {
     let place = tape[3 * i + 1] as usize;
-    let widths = lines.widths;
-    let end = widths + lines.values;
+    let widths = bound.lines.widths;
+    let end = bound.end();
     match tape[3 * i] {
-        ENVIRONMENT | VALUE => found(text, place, btext, table, widths, end) == end,
-        DECLARED => typeless(tape[3 * i + 2])
-            && found(text, place, btext, table, 0, widths) == widths,
+        ENVIRONMENT | VALUE => found(text, place, bound, widths, end) == end,
+        DECLARED => typeless(tape[3 * i + 2]) && found(text, place, bound, 0, widths) == widths,
         MEMORY => typeless(tape[3 * i + 2]),
         _ => false,
     }
 }
 
 // The earliest place of an open item among so many.
-fn walk(
-    text: &[u8],
-    tape: &[u32],
-    many: usize,
-    btext: &[u8],
-    table: &[u32],
-    lines: Lines,
-) -> Option<u32>
-    requires { (3 * many ≤ length tape.now) × Lined lines table.now }
-    ensures { result ≡ reduce min (map (place_at tape.now) (filter (open_at text.now tape.now btext.now table.now lines) (range_with_len 0 many))) }
+fn walk(text: &[u8], tape: &[u32], many: usize, bound: Bound) -> Option<u32>
+    requires { 3 * many ≤ length tape.now }
+    ensures { result ≡ reduce min (map (place_at tape.now) (filter (open_at text.now tape.now bound.entry) (range_with_len 0 many))) }
 {
     (0..many)
-        .filter(|&i| open_at(text, tape, btext, table, lines, i))
+        .filter(|&i| open_at(text, tape, bound, i))
         .map(|i| tape[3 * i + 1])
         .min()
 }
 
 // The earliest place in the actor of row 9.
-pub fn unsettled(
-    text: &[u8],
-    tape: &[u32],
-    n: usize,
-    btext: &[u8],
-    table: &[u32],
-    lines: Lines,
-) -> Option<u32>
-    requires n_in_bounds { n ≤ length tape.now }
-    requires lined { Lined lines table.now }
-    ensures { FaultsTold text.now tape.now n btext.now table.now lines unsettled_of result }
+pub fn unsettled(text: &[u8], tape: &[u32], n: usize, bound: Bound) -> Option<u32>
+    requires { n ≤ length tape.now }
+    ensures { FaultsTold text.now tape.now n bound.entry unsettled_of result }
 {
-    walk(text, tape, n / 3, btext, table, lines)
+    walk(text, tape, n / 3, bound)
 }

@@ -17,7 +17,7 @@ use Rattle.language.specs.Counts.{type_words, too_many, limit_faults}
 use Rattle.language.specs.Bindings.{Binding, Bindings}
 use Rattle.language.specs.Widths.{Want, exactly, type_want, declared_type, port_want, wants, bound_names, value_in, Least}
 use Rattle.bindings.proofs.Ranges.{ranged}
-use Rattle.bindings.specs.declared.Lines.{Lines}
+use Rattle.bindings.specs.declared.bound.Bound.{Bound}
 use Rattle.row09_bindings.proofs.Tables.{names_are, widths_on, values_on}
 use Rattle.placed.specs.Placed.{name_from, Every, PlacedActor}
 use Rattle.placed.proofs.Placed.{placed}
@@ -30,7 +30,7 @@ use Rattle.typing.proofs.Rules.{none_left, none_right}
 use Rattle.typing.proofs.Bridge.{as_many, found, not_found}
 use Rattle.typing.proofs.Accepted.{All, terms_right, coded}
 use Rattle.row09_bindings.specs.Lines.{names_on}
-use Rattle.type_nodes.specs.Codes.{Env, env, port_of, value_or, value_of, number_node, capped, sought_in, some_nodes, port_nodes, want_nodes, signed_names, tally, counts_over, Slotted}
+use Rattle.type_nodes.specs.Codes.{Env, env_in, port_of, value_or, value_of, number_node, capped, sought_in, some_nodes, port_nodes, want_nodes, signed_names, tally, counts_over, Slotted}
 use Rattle.row10_widths.specs.Row.{Asked, Settles}
 use Rattle.std.specs.Prelude.{Some, None}
 use Rattle.type_nodes.specs.declared.Counts.{Counts}
@@ -110,9 +110,9 @@ pub record Laid (a : Actor) (b : Bindings) (cells starts ends : List ℕ) (all :
   pub yes : (xs before : List ℕ) {g : Bool} → g ≡ true → Answer g (terms_of a b) xs → Settles a b (Some all) before (xs ++ drop all before)
   pub no : (xs before : List ℕ) {g : Bool} → g ≡ false → Answer g (terms_of a b) xs → Settles a b None before (xs ++ drop all before)
 
-module _ (text t : List ℕ) (n : ℕ) (btext table : List ℕ) (lines : Lines) {ws : List Word} {a : Actor} {b : Bindings} (low : n ≤ length t) (h : Asked text t n btext table lines ws a b) where
+module _ (text t : List ℕ) (n : ℕ) (bound : Bound) {ws : List Word} {a : Actor} {b : Bindings} (low : n ≤ length t) (h : Asked text t n bound ws a b) where
   abbrev e : Env
-  e = env text t btext table lines (length a.signature)
+  e = env_in text t bound (length a.signature)
 
   stands : PlacedActor text a
   stands = placed h.tells.lexed h.tells.parses
@@ -126,13 +126,13 @@ module _ (text t : List ℕ) (n : ℕ) (btext table : List ℕ) (lines : Lines) 
 
   values : (s : List ℕ) → value_of e s ≡ value_in b.values s
   unfolding value_of
-  values s = sym (found_value btext table s lines.values lines.widths) ∙ ap (λ (l : List Binding). value_in l s) (values_on h.binds)
+  values s = sym (found_value bound.text.now bound.table.now s bound.lines.values bound.lines.widths) ∙ ap (λ (l : List Binding). value_in l s) (values_on h.binds)
 
   low_widths : (s : List ℕ) → value_in b.widths s ≤ 65535
-  low_widths s = let z = (ranged btext h.binds.reads).widths s in omega arith
+  low_widths s = let z = (ranged bound.text.now h.binds.reads).widths s in omega arith
 
   pub low_values : (s : List ℕ) → value_in b.values s ≤ 65535
-  low_values s = (ranged btext h.binds.reads).values s
+  low_values s = (ranged bound.text.now h.binds.reads).values s
 
   right : (i : ℕ) → TypeOf (length (terms_of a b)) (term_of a b (get_or (wants a b) i (exactly 0)))
   unfolding terms_of term_of
@@ -148,28 +148,28 @@ module _ (text t : List ℕ) (n : ℕ) (btext table : List ℕ) (lines : Lines) 
   name_of : (i : ℕ) → i < length a.signature → get_or (spelled_of a.signature) i [] ≡ name_from text (place_at t (i + 1))
   name_of i q = let z : 1 + i ≡ i + 1 = omega arith in sym (ap (λ (l : List (List ℕ)). get_or l i []) signature) ∙ name_at_law text t (length a.signature) 1 i q ∙ ap (λ (j : ℕ). name_from text (place_at t j)) z
 
-  bound_names_law : names_on btext table 0 lines.widths ≡ spelled_of (bound_names b.widths)
-  bound_names_law = names_are btext table 0 lines.widths ∙ ap (λ (l : List Binding). spelled_of (bound_names l)) (widths_on h.binds)
+  bound_names_law : names_on bound.text.now bound.table.now 0 bound.lines.widths ≡ spelled_of (bound_names b.widths)
+  bound_names_law = names_are bound.text.now bound.table.now 0 bound.lines.widths ∙ ap (λ (l : List Binding). spelled_of (bound_names l)) (widths_on h.binds)
 
   module _ (s : List ℕ) where
     abbrev line : ℕ
-    line = index (names_on btext table 0 lines.widths) s
+    line = index (names_on bound.text.now bound.table.now 0 bound.lines.widths) s
 
-    is_bound : ltb line lines.widths ≡ among (spelled_of (bound_names b.widths)) s
-    is_bound = sym (found_among btext table s lines.widths 0) ∙ ap (λ (l : List (List ℕ)). among l s) bound_names_law
+    is_bound : ltb line bound.lines.widths ≡ among (spelled_of (bound_names b.widths)) s
+    is_bound = sym (found_among bound.text.now bound.table.now s bound.lines.widths 0) ∙ ap (λ (l : List (List ℕ)). among l s) bound_names_law
 
-    bound_value : ltb line lines.widths ≡ true → get_or table (3 * line + 2) 0 ≡ value_in b.widths s
+    bound_value : ltb line bound.lines.widths ≡ true → get_or bound.table.now (3 * line + 2) 0 ≡ value_in b.widths s
     unfolding value_or
     bound_value f =
         let x : 0 + line ≡ line = omega arith in
-        let y : 0 + lines.widths ≡ lines.widths = omega arith in
-        sym (sym (ap (λ (l : List Binding). value_in l s) (widths_on h.binds)) ∙ found_value btext table s lines.widths 0 ∙ ap₂ (λ (u v : ℕ). value_or table u v) x y ∙ ap (λ (q : Bool). elim q as (λ (z : Bool). ℕ) [ true ↦ get_or table (3 * line + 2) 0 | false ↦ 0 ]) f)
+        let y : 0 + bound.lines.widths ≡ bound.lines.widths = omega arith in
+        sym (sym (ap (λ (l : List Binding). value_in l s) (widths_on h.binds)) ∙ found_value bound.text.now bound.table.now s bound.lines.widths 0 ∙ ap₂ (λ (u v : ℕ). value_or bound.table.now u v) x y ∙ ap (λ (q : Bool). elim q as (λ (z : Bool). ℕ) [ true ↦ get_or bound.table.now (3 * line + 2) 0 | false ↦ 0 ]) f)
 
     -- a bound width, or the declared type
     abbrev want : Bool → Want
     want x = elim x as (λ (y : Bool). Want) [ true ↦ exactly (value_in b.widths s) | false ↦ type_want (declared_type a.ports s) ]
 
-    want_code : (c : ℕ) (l : List ℕ) → l ≡ nodes_d e (declared_type a.ports s) → (x : Bool) → ltb line lines.widths ≡ x → TypeOf c (term_of a b (want x)) → elim x as (λ (y : Bool). List ℕ) [ true ↦ number_node (get_or table (3 * line + 2) 0) ∷ [] | false ↦ some_nodes l ] ≡ code (term_of a b (want x))
+    want_code : (c : ℕ) (l : List ℕ) → l ≡ nodes_d e (declared_type a.ports s) → (x : Bool) → ltb line bound.lines.widths ≡ x → TypeOf c (term_of a b (want x)) → elim x as (λ (y : Bool). List ℕ) [ true ↦ number_node (get_or bound.table.now (3 * line + 2) 0) ∷ [] | false ↦ some_nodes l ] ≡ code (term_of a b (want x))
     unfolding term_of code
     want_code c l f true g r = ap (λ (y : ℕ). y ∷ []) (ap number_node (bound_value g) ∙ number_node_law (value_in b.widths s) (low_widths s))
     want_code c l f false g r = ap some_nodes f ∙ declared_code (declared_type a.ports s) r
@@ -178,7 +178,7 @@ module _ (text t : List ℕ) (n : ℕ) (btext table : List ℕ) (lines : Lines) 
   unfolding port_nodes port_want
   port_code p c r =
       let s = name_from text p in
-      want_code s c (sought_in e (PortAt p) [] (take n t)) (ap (sought_in e (PortAt p) []) h.tells.holds ∙ port_found e a stands p) (ltb (line s) lines.widths) refl (subst (λ (x : Bool). TypeOf c (term_of a b (want s x))) (sym (is_bound s)) r) ∙ ap (λ (x : Bool). code (term_of a b (want s x))) (is_bound s)
+      want_code s c (sought_in e (PortAt p) [] (take n t)) (ap (sought_in e (PortAt p) []) h.tells.holds ∙ port_found e a stands p) (ltb (line s) bound.lines.widths) refl (subst (λ (x : Bool). TypeOf c (term_of a b (want s x))) (sym (is_bound s)) r) ∙ ap (λ (x : Bool). code (term_of a b (want s x))) (is_bound s)
 
   pub want_nodes_law : (i : ℕ) → i < length (wants a b) → want_nodes e n i ≡ code (term_of a b (get_or (wants a b) i (exactly 0)))
   unfolding want_nodes wants
@@ -220,9 +220,9 @@ module _ (text t : List ℕ) (n : ℕ) (btext table : List ℕ) (lines : Lines) 
   unfolding wants
   wants_long = length-append (each (λ (n : Name). port_want a b n.spelled ∷ []) a.signature) (each (λ (m : Memory). type_want m.type ∷ []) a.memories) ∙ ap₂ (λ (x y : ℕ). x + y) (ports_long a b a.signature) (memories_long a.memories)
 
-  module _ (cells starts ends : List ℕ) (ports all : ℕ) (p : ports ≡ length a.signature) (q : all ≡ length a.signature + length a.memories) (s : Slotted (env text t btext table lines ports) n cells starts ends all) (r : 64 * all ≤ length cells) (x : all ≤ length starts) (y : all ≤ length ends) where
+  module _ (cells starts ends : List ℕ) (ports all : ℕ) (p : ports ≡ length a.signature) (q : all ≡ length a.signature + length a.memories) (s : Slotted (env_in text t bound ports) n cells starts ends all) (r : 64 * all ≤ length cells) (x : all ≤ length starts) (y : all ≤ length ends) where
     slotted : Slotted e n cells starts ends all
-    slotted = subst (λ (j : ℕ). Slotted (env text t btext table lines j) n cells starts ends all) p s
+    slotted = subst (λ (j : ℕ). Slotted (env_in text t bound j) n cells starts ends all) p s
 
     stand : (i : ℕ) → i < length (wants a b) → TermStands (term_of a b (get_or (wants a b) i (exactly 0))) cells (get_or (take all starts) i 0) (get_or (take all ends) i 0)
     stand i f =
@@ -277,12 +277,12 @@ module _ (text t : List ℕ) (n : ℕ) (btext table : List ℕ) (lines : Lines) 
           fits = tt;
         }
 
-  pub laid : {c : Counts} → c ≡ counts_over (tally 0 0) (take n t) → (cells starts ends : List ℕ) (i : ℕ) → i ≡ c.ports + c.memories → Slotted (env text t btext table lines c.ports) n cells starts ends i → length cells ≡ 1536 → length starts ≡ 24 → length ends ≡ 24 → Laid a b cells starts ends (c.ports + c.memories)
+  pub laid : {c : Counts} → c ≡ counts_over (tally 0 0) (take n t) → (cells starts ends : List ℕ) (i : ℕ) → i ≡ c.ports + c.memories → Slotted (env_in text t bound c.ports) n cells starts ends i → length cells ≡ 1536 → length starts ≡ 24 → length ends ≡ 24 → Laid a b cells starts ends (c.ports + c.memories)
   laid {c} q cells starts ends i z s x y w =
       let p = counted q in
       let f = few_declared q in
       let all = c.ports + c.memories in
-      let s' = subst (λ (j : ℕ). Slotted (env text t btext table lines c.ports) n cells starts ends j) z s in
+      let s' = subst (λ (j : ℕ). Slotted (env_in text t bound c.ports) n cells starts ends j) z s in
       let e1 : all ≡ length a.signature + length a.memories = omega (arith, p.0, p.1) in
       let e2 : 64 * all ≤ length cells = omega (arith, f.0, f.1) in
       let e3 : all ≤ length starts = omega (arith, f.0, f.1) in

@@ -10,7 +10,7 @@ use Rattle.language.specs.Types.{type_faults}
 use Rattle.language.specs.Bindings.{Bindings}
 use Rattle.language.specs.Widths.{wants, Resolved}
 use Rattle.tape.specs.Row.{Tells}
-use Rattle.bindings.specs.declared.Lines.{Lines}
+use Rattle.bindings.specs.declared.bound.Bound.{Bound}
 use Rattle.row09_bindings.specs.Lines.{Binds}
 use Rattle.std.specs.Prelude.{Option as Optional, Some, None}
 
@@ -24,9 +24,9 @@ pub record Passed (ws : List Word) (a : Actor) : Type 0 where
   pub limited : limit_faults ws a ≡ []
   pub typed : each type_faults (types (actor_items a)) ≡ []
 
-pub record Asked (text t : List ℕ) (n : ℕ) (btext table : List ℕ) (lines : Lines) (ws : List Word) (a : Actor) (b : Bindings) : Type 0 where
+pub record Asked (text t : List ℕ) (n : ℕ) (bound : Bound) (ws : List Word) (a : Actor) (b : Bindings) : Type 0 where
   pub tells : Tells text t n ws a
-  pub binds : Binds btext table lines b
+  pub binds : Binds bound.text.now bound.table.now bound.lines b
   pub passed : Passed ws a
 
 -- the widths, in the first cells
@@ -47,6 +47,6 @@ pub record Settles (a : Actor) (b : Bindings) (r : Answer) (before cells : List 
   pub fits : Fits r cells
 
 -- what is answered, and what the cells hold, settles the widths of the actor and the bindings that tape and table hold
-abbrev pub SolvedTold : (text t : List ℕ) (n : ℕ) (btext table : List ℕ) → Lines → Answer → (before cells : List ℕ) → Type 0
-SolvedTold text t n btext table lines r before cells =
-    (ws : List Word) (a : Actor) (b : Bindings) → Asked text t n btext table lines ws a b → Settles a b r before cells
+abbrev pub SolvedTold : (text t : List ℕ) (n : ℕ) → Bound → Answer → (before cells : List ℕ) → Type 0
+SolvedTold text t n bound r before cells =
+    (ws : List Word) (a : Actor) (b : Bindings) → Asked text t n bound ws a b → Settles a b r before cells

@@ -1,5 +1,5 @@
 // Row 10 of document 01: the widths of an actor's ports and memories, by their types and the bindings.
-// What comes in: the actor's text and tape, the bindings' text and table, and cells for the widths. What goes out: how
+// What comes in: the actor's text and tape, the bindings, and cells for the widths. What goes out: how
 // many widths there are, the ports' in the order of the signature and then the memories', or that no widths satisfy every type.
 #![tactic(auto)]
 
@@ -8,10 +8,9 @@ ghost use Rattle.language.specs.Limits.{limits};
 ghost use Rattle.language.specs.Words.{Word};
 ghost use Rattle.language.specs.Tree.{Actor};
 ghost use Rattle.language.specs.Bindings.{Bindings};
-ghost use Rattle.bindings.specs.Table.{Lined};
 ghost use Rattle.row10_widths.specs.Row.{Asked, SolvedTold};
 
-use bindings::Lines;
+use bindings::Bound;
 use language::{Plan, Type};
 use type_codes::want_code;
 use type_nodes::declared;
@@ -28,14 +27,12 @@ pub fn solved(
     text: &[u8],
     tape: &[u32],
     n: usize,
-    btext: &[u8],
-    table: &[u32],
-    lines: Lines,
+    bound: Bound,
     widths: &mut [u32],
 ) -> Option<usize>
-    requires n_in_bounds { (n ≤ length tape.now) × Lined lines table.now × (limits.ports + limits.memories ≤ length widths.old) }
-    requires asked { (ws : List Word) × (a : Actor) × (b : Bindings) × Asked text.now tape.now n btext.now table.now lines ws a b }
-    ensures { SolvedTold text.now tape.now n btext.now table.now lines result widths.old widths.new }
+    requires n_in_bounds { (n ≤ length tape.now) × (limits.ports + limits.memories ≤ length widths.old) }
+    requires asked { (ws : List Word) × (a : Actor) × (b : Bindings) × Asked text.now tape.now n bound ws a b }
+    ensures { SolvedTold text.now tape.now n bound.entry result widths.old widths.new }
 {
     let mut code = [0u32; NODES];
     let mut starts = [0usize; WIDTHS];
@@ -45,7 +42,7 @@ pub fn solved(
     let all = ports + c.memories;
     for i in 0..all {
         starts[i] = WORDS * i;
-        ends[i] = WORDS * i + want_code(text, tape, n, btext, table, lines, ports, i, &mut code);
+        ends[i] = WORDS * i + want_code(text, tape, n, bound, ports, i, &mut code);
     }
     if typing::solve(&code, &starts[..all], &ends[..all], &mut widths[..all]) {
         return Some(all);

@@ -26,7 +26,7 @@ use Rattle.typing.proofs.Rules.{passed, type_right}
 use Rattle.typing.proofs.Accepted.{All, RightType, types_right}
 use Rattle.tape.proofs.Listed.{in_statement}
 use Rattle.bits.proofs.Sets.{both_right}
-use Rattle.bindings.specs.declared.Lines.{Lines}
+use Rattle.bindings.specs.declared.bound.Bound.{Bound}
 use Rattle.row10_widths.specs.Row.{Asked}
 use Rattle.row10_widths.proofs.Whole.{every_all, not_too_many, memory_names_law, low_values, few_ports, few_memories, wants_long}
 use Rattle.looked_up.specs.Lookup.{sum_of}
@@ -130,15 +130,15 @@ few_of ws a h =
 
 -- ---- what was asked
 
-module _ (text t : List ℕ) (n : ℕ) (btext table : List ℕ) (lines : Lines) {ws : List Word} {a : Actor} {b : Bindings} (low : n ≤ length t) (h : Asked text t n btext table lines ws a b) (widths : List ℕ) (r : Resolved a b (some widths)) where
+module _ (text t : List ℕ) (n : ℕ) (bound : Bound) {ws : List Word} {a : Actor} {b : Bindings} (low : n ≤ length t) (h : Asked text t n bound ws a b) (widths : List ℕ) (r : Resolved a b (some widths)) where
   abbrev S : Setting
   S = record { actor = a; bindings = b; widths = widths }
 
   pub asked_small : Small S
   asked_small =
-      let p = few_ports text t n btext table lines low h in
-      let q = few_memories text t n btext table lines low h in
-      let l = wants_long text t n btext table lines low h in
+      let p = few_ports text t n bound low h in
+      let q = few_memories text t n bound low h in
+      let l = wants_long text t n bound low h in
       let e = r.satisfies.long in
       record {
         ports = let x = spelled_long a.signature in omega arith;
@@ -149,7 +149,7 @@ module _ (text t : List ℕ) (n : ℕ) (btext table : List ℕ) (lines : Lines) 
       }
 
   type_is : (u : Ty) → RightType a b u → Right S u
-  type_is u y = type_right (spelled_of a.signature) (length widths) (let l = wants_long text t n btext table lines low h in let e = r.satisfies.long in let x = spelled_long a.signature in omega arith) (value_in b.values) (low_values text t n btext table lines low h) u y.0 y.1 y.2
+  type_is u y = type_right (spelled_of a.signature) (length widths) (let l = wants_long text t n bound low h in let e = r.satisfies.long in let x = spelled_long a.signature in omega arith) (value_in b.values) (low_values text t n bound low h) u y.0 y.1 y.2
 
   types_are : (l : List Ty) → All (RightType a b) l → Every (Right S) l
   types_are [] y = tt

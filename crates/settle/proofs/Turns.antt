@@ -14,7 +14,7 @@ use Rattle.tape.specs.Tape.{VAL, END, RULED, most_items}
 use Rattle.tape.specs.declared.Class.{Class}
 use Rattle.tape.specs.Walk.{op_at, place_at, value_at, hit, add, names_on, between}
 use Rattle.tape.proofs.Seens.{more}
-use Rattle.bindings.specs.declared.Lines.{Lines}
+use Rattle.bindings.specs.declared.bound.Bound.{Bound}
 use Rattle.item_writes.specs.declared.Far.{Far}
 use Rattle.item_writes.specs.declared.given.Given.{Given}
 use Rattle.item_writes.specs.Walk.{Around, State, when, without, takes, grown, written, step, walked, around_of}
@@ -73,9 +73,9 @@ vals_are o vals = ap (λ (n : ℕ). when (eqb o VAL) n (when (eqb o RULED) 0 val
 
 -- ---- the state
 
-module _ (text t : List ℕ) (many : ℕ) (btext table : List ℕ) (lines : Lines) (ws code starts out : List ℕ) (i : ℕ) (far : Far) where
+module _ (text t : List ℕ) (many : ℕ) (bound : Bound) (ws code starts out : List ℕ) (i : ℕ) (far : Far) where
   abbrev AroundIt : Around
-  AroundIt = around_of text t many btext table lines ws
+  AroundIt = around_of text t many bound.text.now bound.table.now bound.lines ws
 
   abbrev BeforeIt : State
   BeforeIt = state_of text t code starts out i far

@@ -23,7 +23,7 @@ use Rattle.row09_bindings.proofs.Tables.{values_on}
 use Rattle.row10_widths.specs.Row.{Asked}
 use Rattle.settled.specs.Form.{BIG, AMOUNT, six}
 use Rattle.settled.specs.Settled.{amount, settled_of}
-use Rattle.bindings.specs.declared.Lines.{Lines}
+use Rattle.bindings.specs.declared.bound.Bound.{Bound}
 use Rattle.item_writes.specs.Walk.{Around, State, start, step, walked, when, around_of, settled_on, port_out, cell_out, read_out, signed_out, named_out, written}
 use Rattle.settle.proofs.Settings.{around}
 use Rattle.settle.proofs.Actors.{actor_goes}
@@ -93,8 +93,8 @@ thirds n = (omega arith, omega arith)
 abbrev inputs_on : (text t : List ℕ) → ℕ → List (List ℕ)
 inputs_on text t n = between text t Class.Input 0 (n / 3)
 
-module _ {text t : List ℕ} {n : ℕ} {btext table : List ℕ} {lines : Lines} {ws : List Word} {a : Actor} {b : Bindings} {widths : List ℕ} (h : Asked text t n btext table lines ws a b) (r : Resolved a b (some widths)) (low : n ≤ length t) where
-  around_is : around_of text t (n / 3) btext table lines widths ≡ around text (record { actor = a; bindings = b; widths = widths }) (inputs_on text t n)
+module _ {text t : List ℕ} {n : ℕ} {bound : Bound} {ws : List Word} {a : Actor} {b : Bindings} {widths : List ℕ} (h : Asked text t n bound ws a b) (r : Resolved a b (some widths)) (low : n ≤ length t) where
+  around_is : around_of text t (n / 3) bound.text.now bound.table.now bound.lines widths ≡ around text (record { actor = a; bindings = b; widths = widths }) (inputs_on text t n)
   unfolding around_of
   around_is =
       let q = placed h.tells.lexed h.tells.parses in
@@ -108,7 +108,7 @@ module _ {text t : List ℕ} {n : ℕ} {btext table : List ℕ} {lines : Lines} 
   inputs_are : (s : List ℕ) → among (inputs_on text t n) s ≡ among (input_names a.ports) s
   inputs_are s = let e = thirds n in (agreed text t n (n / 3) low e.0 e.1 h.tells).inputs s
 
-  pub settled_is : settled_on text t (n / 3) btext table lines widths ≡ settled_of (record { actor = a; bindings = b; widths = widths })
+  pub settled_is : settled_on text t (n / 3) bound widths ≡ settled_of (record { actor = a; bindings = b; widths = widths })
   settled_is =
       let e = thirds n in
       let s : Setting = record { actor = a; bindings = b; widths = widths } in
@@ -116,11 +116,11 @@ module _ {text t : List ℕ} {n : ℕ} {btext table : List ℕ} {lines : Lines} 
       ap (λ (c : Around). (walked c t (n / 3)).out) around_is
       ∙ ap (λ (x : State). x.out)
       (walked_up A t (n / 3) ∙ sym (by_index (step A) start t n (n / 3) low e.0 e.1) ∙ ap (fold (step A) start) h.tells.holds
-      ∙ goes_whole (actor_goes text s (inputs_on text t n) (asked_small text t n btext table lines low h widths r) inputs_are (asked_right text t n btext table lines low h widths r)))
+      ∙ goes_whole (actor_goes text s (inputs_on text t n) (asked_small text t n bound low h widths r) inputs_are (asked_right text t n bound low h widths r)))
 
   pub settled_many : length (settled_of (record { actor = a; bindings = b; widths = widths })) ≤ 2 * n
   settled_many =
       let e = thirds n in
       let x = ap length settled_is in
-      let w = walked_few (around_of text t (n / 3) btext table lines widths) t (n / 3) in
+      let w = walked_few (around_of text t (n / 3) bound.text.now bound.table.now bound.lines widths) t (n / 3) in
       omega (arith, e.0, w.0)

@@ -8,24 +8,23 @@ mod steps;
 
 ghost use Rattle.tape.specs.Tape.{longest, most_items};
 ghost use Rattle.std.specs.Prelude.{◌≡◌, ◌*◌, ◌/◌, ◌≤◌, length, take, drop};
-ghost use Rattle.bindings.specs.Table.{Lined};
 ghost use Rattle.item_writes.specs.Walk.{settled_on};
 ghost use Rattle.item_writes.specs.Tables.{Holds, settled_in};
 
-use bindings::Lines;
-use item_writes::{Counts, Given};
+use bindings::Bound;
+use item_writes::Given;
 use steps::{begin, step};
 use tape::ITEMS;
 
 // The items of the walk, put into a table: how many numbers they are.
 fn walk(given: Given, out: &mut [u32]) -> usize
-    requires { 6 * given.many.items ≤ length out.old }
+    requires { 6 * given.many ≤ length out.old }
     ensures { Holds (settled_in given.entry) result out.old out.new }
 {
     let mut code = [0u32; ITEMS];
     let mut starts = [0usize; ITEMS];
     let mut far = begin();
-    for i in 0..given.many.items {
+    for i in 0..given.many {
         far = step(given, i, &mut code, &mut starts, out, far);
     }
     far.out
@@ -36,27 +35,21 @@ pub fn settled(
     text: &[u8],
     tape: &[u32],
     n: usize,
-    btext: &[u8],
-    table: &[u32],
-    lines: Lines,
+    bound: Bound,
     widths: &[u32],
     out: &mut [u32],
 ) -> usize
-    requires { (n ≤ length tape.now) × (n ≤ longest) × Lined lines table.now × (2 * n ≤ length out.old) }
-    ensures long { result ≡ length (settled_on text.now tape.now (n / 3) btext.now table.now lines widths.now) }
-    ensures items { take result out.new ≡ settled_on text.now tape.now (n / 3) btext.now table.now lines widths.now }
+    requires { (n ≤ length tape.now) × (n ≤ longest) × (2 * n ≤ length out.old) }
+    ensures long { result ≡ length (settled_on text.now tape.now (n / 3) bound.entry widths.now) }
+    ensures items { take result out.new ≡ settled_on text.now tape.now (n / 3) bound.entry widths.now }
     ensures past { drop result out.new ≡ drop result out.old }
 {
     let given = Given {
         text,
         tape,
-        btext,
-        table,
+        bound,
         widths,
-        many: Counts {
-            items: n / 3,
-            lines,
-        },
+        many: n / 3,
     };
     walk(given, out)
 }

@@ -43,10 +43,8 @@ use Rattle.row13_plan.specs.Made.{table_after as table_with}
 use Rattle.plan_of.proofs.Row13.{made}
 use Rattle.item_writes.specs.Walk.{around_of, settled_on}
 use Rattle.settle.proofs.Whole.{walked_few, settled_is}
-use Rattle.bindings.specs.declared.Lines.{Lines}
-use Rattle.row10_widths.specs.Row.{Settles, Fits, told}
-use Rattle.row10_widths.specs.declared.Answer as resolved_answer
-use Rattle.std.specs.Prelude.{Some, None}
+use Rattle.bindings.specs.declared.bound.Bound.{Bound}
+use Rattle.row10_widths.specs.Row.{Answer as Solved, Settles, Fits, told}
 use Rattle.tipi.specs.Told.{answer_of, table_after, Told, goes, After, Heard, Settled, late_of}
 use Rattle.plan_answer.specs.Answered.{made_of, sums}
 use Rattle.plan_answer.specs.Answered.{Answer}
@@ -204,11 +202,11 @@ module _ {items : List ℕ} {many : ℕ} {ws : List Word} {s : Setting} (h : Set
 
 -- ---- the items that `settling` makes
 
-module _ (text t : List ℕ) (n : ℕ) (btext table : List ℕ) (lines : Lines) (widths : List ℕ) {r : ℕ} (long : r ≡ length (settled_on text t (n / 3) btext table lines widths)) where
+module _ (text t : List ℕ) (n : ℕ) (bound : Bound) (widths : List ℕ) {r : ℕ} (long : r ≡ length (settled_on text t (n / 3) bound widths)) where
   pub settled_count : (6 * (r / 6) ≡ r) × (r ≤ 2 * n)
-  settled_count = let w = walked_few (around_of text t (n / 3) btext table lines widths) t (n / 3) in (omega (arith, w.1), omega (arith, w.0))
+  settled_count = let w = walked_few (around_of text t (n / 3) bound.text.now bound.table.now bound.lines widths) t (n / 3) in (omega (arith, w.1), omega (arith, w.0))
 
-  pub settled_held : {items : List ℕ} {ws : List Word} {a : Actor} {b : Bindings} → take r items ≡ settled_on text t (n / 3) btext table lines widths → n ≤ length t → Heard text t n btext table lines ws a b → Least a b widths
+  pub settled_held : {items : List ℕ} {ws : List Word} {a : Actor} {b : Bindings} → take r items ≡ settled_on text t (n / 3) bound widths → n ≤ length t → Heard text t n bound ws a b → Least a b widths
       → Settled items (r / 6) ws (record { actor = a; bindings = b; widths = widths })
   settled_held {items} {ws} {a} is low h least =
       record {
@@ -230,16 +228,16 @@ whole_there items {r} e f = let g = ap length f in let h = length-take r items i
 
 -- ---- row 10
 
-module _ {a : Actor} {b : Bindings} {r : resolved_answer.Answer} {before cells : List ℕ} (h : Settles a b r before cells) where
+module _ {a : Actor} {b : Bindings} {r : Solved} {before cells : List ℕ} (h : Settles a b r before cells) where
   pub few_widths : {w : ℕ} → r ≡ Some w → w ≤ length cells
-  few_widths e = subst (λ (x : resolved_answer.Answer). Fits x cells) e h.fits
+  few_widths e = subst (λ (x : Solved). Fits x cells) e h.fits
 
   pub least_widths : {w : ℕ} → r ≡ Some w → Least a b (take w cells)
-  least_widths e = subst (λ (x : resolved_answer.Answer). Resolved a b (told x cells)) e h.resolved
+  least_widths e = subst (λ (x : Solved). Resolved a b (told x cells)) e h.resolved
 
   pub no_widths : r ≡ None → (before : List ℕ) → After (through a b) (Refused 10 InActor 0) before before
   unfolding late answer_of table_after
-  no_widths e before = record { what = late a b none; follows = goes none (subst (λ (x : resolved_answer.Answer). Resolved a b (told x cells)) e h.resolved); told = record { answer = refl; table = refl } }
+  no_widths e before = record { what = late a b none; follows = goes none (subst (λ (x : Solved). Resolved a b (told x cells)) e h.resolved); told = record { answer = refl; table = refl } }
 
 pub late_after : {a : Actor} {b : Bindings} {ws : List ℕ} {r : Answer} {before after : List ℕ} → Least a b ws → Told (late a b (some ws)) r before after → After (through a b) r before after
 late_after {a} {b} {ws} least t = record { what = late a b (some ws); follows = goes (some ws) least; told = t }

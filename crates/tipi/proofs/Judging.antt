@@ -15,14 +15,16 @@ use Rattle.language.specs.Widths.{strangers, unsettled}
 use Rattle.language.specs.Reading.{Early, stopped, through, refused, row, judged}
 use Rattle.language.specs.declared.Text.{Text}
 use Rattle.language.specs.declared.Text.TheVariants.{Actor as InActor, Bindings as InBindings}
-use Rattle.bindings.specs.declared.Lines.{Lines}
+use Rattle.bindings.specs.declared.bound.Bound.{Bound}
 use Rattle.row10_widths.specs.Row.{Passed}
 use Rattle.tipi.specs.Told.{answer_of, table_after, stops, After, Heard}
 use Rattle.early_rows.specs.Verdicts.{verdict_of, TextsHeld}
 use Rattle.plan_answer.specs.Answered.{Answer}
 use Rattle.plan_answer.specs.Answered.{Plan, Refused}
 use Rattle.early_rows.specs.Verdicts.{Verdict, Stopped, Through}
+use Rattle.language.specs.declared.Refusal.{Refusal}
 use Rattle.std.specs.Prelude.{Ok, Err}
+use Rattle.std.specs.Result.{IsErrAnd}
 
 -- ---- rows 6 to 9 together
 
@@ -35,6 +37,11 @@ pub stopped_after : (e : Early) {n p : ℕ} {t : Text} (before : List ℕ) → S
 unfolding verdict_of answer_of table_after
 stopped_after (stopped m u q) before f = record { what = refused m u q; follows = stops; told = record { answer = ap refuse f; table = refl } }
 stopped_after (through a b) before f = cc
+
+-- what a `?` hands on
+pub passed_up : {e : Early} {why : Refusal} {before after : List ℕ} (r : Answer) → IsErrAnd r (λ y. y ≡ why) → After e (Err why) before after → After e r before after
+passed_up (Ok n) h x = absurd h
+passed_up {e} {why} {before} {after} (Err y) h x = subst (λ (z : Answer). After e z before after) (ap Err (sym h)) x
 
 row_through : (n : ℕ) (t : Text) (l : List ℕ) (next : Early) → Through ≡ verdict_of (row n t l next) → (l ≡ []) × (Through ≡ verdict_of next) × (row n t l next ≡ next)
 unfolding row earliest verdict_of
@@ -62,7 +69,7 @@ judged_through ws a b f =
     let h = row_through 9 InActor (unsettled a b) _ g.1 in
     record { passed = record { names = c.0; limited = d.0; typed = e.0 }; known = g.0; settled = h.0; whole = c.2 ∙ d.2 ∙ e.2 ∙ g.2 ∙ h.2 }
 
-pub heard : {text t btext table : List ℕ} {n : ℕ} {lines : Lines} {ws : List Word} {a : Actor} {b : Bindings} → TextsHeld text t n btext table lines ws a b → Clean ws a b → Heard text t n btext table lines ws a b
+pub heard : {text t : List ℕ} {n : ℕ} {bound : Bound} {ws : List Word} {a : Actor} {b : Bindings} → TextsHeld text t n bound ws a b → Clean ws a b → Heard text t n bound ws a b
 heard h c = record { asked = record { tells = h.tells; binds = h.binds; passed = c.passed }; known = c.known; settled = c.settled }
 
 pub after_as : {e f : Early} {r : Answer} {before after : List ℕ} → f ≡ e → After e r before after → After f r before after

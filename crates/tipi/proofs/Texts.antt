@@ -29,6 +29,7 @@ use Rattle.bindings.specs.Table as Table
 use Rattle.bindings.specs.declared.Fault.TheVariants.{Wrong, NoRoom}
 use Rattle.std.specs.Prelude.{Ok, Err}
 use Rattle.bindings.specs.declared.Lines.{Lines}
+use Rattle.bindings.specs.declared.bound.Bound.{Bound as Given}
 use Rattle.tape.specs.Row.{Tells}
 use Rattle.row09_bindings.specs.Lines.{Binds}
 use Rattle.row09_bindings.proofs.Tables.{Filled, read_fills}
@@ -128,17 +129,17 @@ pub tape_size : (text t : List ℕ) {t' : List ℕ} {n : ℕ} → length t ≡ n
 tape_size text t h e = ap length e ∙ tape_long text t ∙ h
 
 -- an actor that is on the tape, with its bindings
-pub record Met (text t btext table : List ℕ) (n : ℕ) (lines : Lines) (b : Bindings) : Type 0 where
+pub record Met (text t : List ℕ) (n : ℕ) (given : Given) (b : Bindings) : Type 0 where
   pub ws : List Word
   pub actor : Actor
-  pub held : TextsHeld text t n btext table lines ws actor b
+  pub held : TextsHeld text t n given ws actor b
   pub whole : worded text b ≡ judged ws actor b
 
 pub few_numbers : {r : Said} {n : ℕ} → Roomy r → r ≡ Ok n → n ≤ 24576
 few_numbers h e = subst Roomy e h
 
-pub met : (text t : List ℕ) {t' btext table : List ℕ} {n : ℕ} {lines : Lines} {b : Bindings} {r : Said} → length text ≤ limits.actor → length t ≡ 24576 → r ≡ said_of text → t' ≡ tape_after text t → Roomy r → r ≡ Ok n → Binds btext table lines b → Met text t' btext table n lines b
-met text t {t'} {btext} {table} {n} {lines} {b} h long e f room g binds =
+pub met : (text t : List ℕ) (given : Given) {t' : List ℕ} {n : ℕ} {b : Bindings} {r : Said} → length text ≤ limits.actor → length t ≡ 24576 → r ≡ said_of text → t' ≡ tape_after text t → Roomy r → r ≡ Ok n → Binds given.text.now given.table.now given.lines b → Met text t' n given b
+met text t given {t'} {n} {b} h long e f room g binds =
     let p = worded_taped text t b h e g in
     record {
       ws = p.ws;

@@ -11,7 +11,7 @@ use Rattle.language.specs.Reading.{Early, stopped, through, refused, accepted, j
 use Rattle.language.specs.declared.Text.{Text}
 use Rattle.plan_of.specs.PlanOf.{plan_of}
 use Rattle.plan_of.specs.Accepted.{Grammatical}
-use Rattle.bindings.specs.declared.Lines.{Lines}
+use Rattle.bindings.specs.declared.bound.Bound.{Bound}
 use Rattle.row10_widths.specs.Row.{Passed, Asked}
 use Rattle.settled.specs.Settled.{settled_of}
 use Rattle.row13_plan.specs.Made.{table_after as table_with}
@@ -51,21 +51,21 @@ pub record After (e : Early) (r : Answer) (before after : List ℕ) : Type 0 whe
   pub told : Told what r before after
 
 -- with no fault of rows 6 to 9
-pub record Heard (text t : List ℕ) (n : ℕ) (btext table : List ℕ) (lines : Lines) (ws : List Word) (a : Actor) (b : Bindings) : Type 0 where
-  pub asked : Asked text t n btext table lines ws a b
+pub record Heard (text t : List ℕ) (n : ℕ) (bound : Bound) (ws : List Word) (a : Actor) (b : Bindings) : Type 0 where
+  pub asked : Asked text t n bound ws a b
   pub known : strangers a b ≡ []
   pub settled : unsettled a b ≡ []
 
 -- the answer is that of the actor and the bindings that they hold: of rows 6 to 13, of rows 10 to 13, and of rows 11 to 13 at these widths
-abbrev pub JudgedTold : (text t : List ℕ) (n : ℕ) (btext table : List ℕ) → Lines → Answer → (before after : List ℕ) → Type 0
-JudgedTold text t n btext table lines r before after = (ws : List Word) (a : Actor) (b : Bindings) → TextsHeld text t n btext table lines ws a b → After (judged ws a b) r before after
+abbrev pub JudgedTold : (text t : List ℕ) (n : ℕ) → Bound → Answer → (before after : List ℕ) → Type 0
+JudgedTold text t n bound r before after = (ws : List Word) (a : Actor) (b : Bindings) → TextsHeld text t n bound ws a b → After (judged ws a b) r before after
 
-abbrev pub PlannedTold : (text t : List ℕ) (n : ℕ) (btext table : List ℕ) → Lines → Answer → (before after : List ℕ) → Type 0
-PlannedTold text t n btext table lines r before after = (ws : List Word) (a : Actor) (b : Bindings) → Heard text t n btext table lines ws a b → After (through a b) r before after
+abbrev pub PlannedTold : (text t : List ℕ) (n : ℕ) → Bound → Answer → (before after : List ℕ) → Type 0
+PlannedTold text t n bound r before after = (ws : List Word) (a : Actor) (b : Bindings) → Heard text t n bound ws a b → After (through a b) r before after
 
-abbrev pub SizedTold : (text t : List ℕ) (n : ℕ) (btext table : List ℕ) → Lines → (widths : List ℕ) → Answer → (before after : List ℕ) → Type 0
-SizedTold text t n btext table lines widths r before after =
-    (ws : List Word) (a : Actor) (b : Bindings) → Heard text t n btext table lines ws a b → Least a b widths → Told (late a b (some widths)) r before after
+abbrev pub SizedTold : (text t : List ℕ) (n : ℕ) → Bound → (widths : List ℕ) → Answer → (before after : List ℕ) → Type 0
+SizedTold text t n bound widths r before after =
+    (ws : List Word) (a : Actor) (b : Bindings) → Heard text t n bound ws a b → Least a b widths → Told (late a b (some widths)) r before after
 
 -- the first items of a table are those of a setting with no fault before row 11
 pub record Settled (items : List ℕ) (many : ℕ) (ws : List Word) (s : Setting) : Type 0 where

@@ -6,11 +6,10 @@ ghost use Rattle.language.specs.Tree.{Actor};
 ghost use Rattle.language.specs.Bindings.{Bindings};
 ghost use Rattle.language.specs.Widths.{Least};
 ghost use Rattle.language.specs.Sizes.{Setting};
-ghost use Rattle.bindings.specs.Table.{Lined};
 ghost use Rattle.tipi.specs.Told.{Told, Heard, Settled, late_of, PlannedTold, SizedTold};
 
 use crate::refused;
-use bindings::Lines;
+use bindings::Bound;
 use language::Text;
 use plan_answer::{Answer, made};
 
@@ -46,38 +45,28 @@ fn sized(
     text: &[u8],
     tape: &[u32],
     n: usize,
-    btext: &[u8],
-    table: &[u32],
-    lines: Lines,
+    bound: Bound,
     widths: &[u32],
     plan: &mut [u32],
 ) -> Answer
-    requires n_in_bounds { (n ≤ length tape.now) × (n ≤ longest) × Lined lines table.now }
-    requires heard { (ws : List Word) × (a : Actor) × (b : Bindings) × Heard text.now tape.now n btext.now table.now lines ws a b × Least a b widths.now }
-    ensures { SizedTold text.now tape.now n btext.now table.now lines widths.now result plan.old plan.new }
+    requires n_in_bounds { (n ≤ length tape.now) × (n ≤ longest) }
+    requires heard { (ws : List Word) × (a : Actor) × (b : Bindings) × Heard text.now tape.now n bound ws a b × Least a b widths.now }
+    ensures { SizedTold text.now tape.now n bound.entry widths.now result plan.old plan.new }
 {
     let mut items = [0u32; NUMBERS];
-    let many = settle::settled(text, tape, n, btext, table, lines, widths, &mut items);
+    let many = settle::settled(text, tape, n, bound, widths, &mut items);
     finished(&items, many / 6, plan)
 }
 
 // Rows 10 to 13, where the rows before have no fault.
-pub fn planned(
-    text: &[u8],
-    tape: &[u32],
-    n: usize,
-    btext: &[u8],
-    table: &[u32],
-    lines: Lines,
-    plan: &mut [u32],
-) -> Answer
-    requires n_in_bounds { (n ≤ length tape.now) × (n ≤ longest) × Lined lines table.now }
-    requires heard { (ws : List Word) × (a : Actor) × (b : Bindings) × Heard text.now tape.now n btext.now table.now lines ws a b }
-    ensures { PlannedTold text.now tape.now n btext.now table.now lines result plan.old plan.new }
+pub fn planned(text: &[u8], tape: &[u32], n: usize, bound: Bound, plan: &mut [u32]) -> Answer
+    requires n_in_bounds { (n ≤ length tape.now) × (n ≤ longest) }
+    requires heard { (ws : List Word) × (a : Actor) × (b : Bindings) × Heard text.now tape.now n bound ws a b }
+    ensures { PlannedTold text.now tape.now n bound.entry result plan.old plan.new }
 {
     let mut widths = [0u32; WIDTHS];
-    match row10_widths::solved(text, tape, n, btext, table, lines, &mut widths) {
-        Some(w) => sized(text, tape, n, btext, table, lines, &widths[..w], plan),
+    match row10_widths::solved(text, tape, n, bound, &mut widths) {
+        Some(w) => sized(text, tape, n, bound, &widths[..w], plan),
         None => refused(10, Text::Actor, 0),
     }
 }

@@ -1,14 +1,13 @@
 // The types of an actor in code, each node after its operands, as `typing` reads them.
-// What comes in: the tape, with the texts and the bindings' table for its names.
+// What comes in: the tape, with its text and the bindings for its names.
 // What goes out: the nodes of each wanted width, in a slot of its own.
 #![tactic(auto)]
 
 ghost use Rattle.std.specs.Prelude.{[], ◌∷◌, ◌++◌, ◌+◌, ◌-◌, ◌*◌, ◌/◌, ◌≤◌, ◌<◌, length, take, drop};
 ghost use Rattle.language.specs.Limits.{limits};
-ghost use Rattle.bindings.specs.Table.{Lined};
-ghost use Rattle.type_nodes.specs.Codes.{env, number_node, node_at, capped, grown_of, sought_in, some_nodes, port_nodes, want_nodes, Filled};
+ghost use Rattle.type_nodes.specs.Codes.{env_in, number_node, node_at, capped, grown_of, sought_in, some_nodes, port_nodes, want_nodes, Filled};
 
-use bindings::Lines;
+use bindings::Bound;
 use language::Type;
 use row09_bindings::found;
 use tape::wide;
@@ -33,17 +32,15 @@ fn type_code(
     text: &[u8],
     tape: &[u32],
     n: usize,
-    btext: &[u8],
-    table: &[u32],
-    lines: Lines,
+    bound: Bound,
     ports: usize,
     goal: Goal,
     code: &mut [u32],
     at: usize,
 ) -> usize
-    requires n_in_bounds { (n ≤ length tape.now) × (3 * ports + 3 ≤ length tape.now) × Lined lines table.now × (ports ≤ limits.ports) }
+    requires n_in_bounds { (n ≤ length tape.now) × (3 * ports + 3 ≤ length tape.now) × (ports ≤ limits.ports) }
     requires type_words_in_bounds { at + limits.typeWords ≤ length code.old }
-    ensures { let e = env text.now tape.now btext.now table.now lines ports in
+    ensures { let e = env_in text.now tape.now bound.entry ports in
         Filled code.old code.new at result (sought_in e goal [] (take n tape.now)) }
 {
     let mut g = goal;
@@ -53,9 +50,7 @@ fn type_code(
         if stops(text, g, role, wide(tape[3 * i + 1])) {
             return kept(role, len);
         }
-        len = grown(
-            text, tape, btext, table, lines, ports, i, role, code, at, len,
-        );
+        len = grown(text, tape, bound, ports, i, role, code, at, len);
         g = left(g, role);
     }
     0
@@ -65,9 +60,7 @@ fn type_code(
 fn grown(
     text: &[u8],
     tape: &[u32],
-    btext: &[u8],
-    table: &[u32],
-    lines: Lines,
+    bound: Bound,
     ports: usize,
     i: usize,
     role: Role,
@@ -75,18 +68,13 @@ fn grown(
     at: usize,
     len: usize,
 ) -> usize
-    requires i_in_bounds { (3 * i + 2 < length tape.now) × (3 * ports + 3 ≤ length tape.now) × Lined lines table.now × (ports ≤ limits.ports) }
+    requires i_in_bounds { (3 * i + 2 < length tape.now) × (3 * ports + 3 ≤ length tape.now) × (ports ≤ limits.ports) }
     requires len_le_type_words { (len ≤ limits.typeWords) × (at + limits.typeWords ≤ length code.old) }
-    ensures { let e = env text.now tape.now btext.now table.now lines ports in
+    ensures { let e = env_in text.now tape.now bound.entry ports in
         Filled code.old code.new at result (grown_of role (take len (drop at code.old)) (node_at e tape.now i)) }
 {
     match role {
-        Role::Node => append(
-            code,
-            at,
-            len,
-            node(text, tape, btext, table, lines, ports, i),
-        ),
+        Role::Node => append(code, at, len, node(text, tape, bound, ports, i)),
         Role::Keep => len,
         _ => 0,
     }
@@ -116,36 +104,23 @@ fn port_code(
     text: &[u8],
     tape: &[u32],
     n: usize,
-    btext: &[u8],
-    table: &[u32],
-    lines: Lines,
+    bound: Bound,
     ports: usize,
     place: usize,
     code: &mut [u32],
     at: usize,
 ) -> usize
-    requires n_in_bounds { (n ≤ length tape.now) × (3 * ports + 3 ≤ length tape.now) × Lined lines table.now × (ports ≤ limits.ports) }
+    requires n_in_bounds { (n ≤ length tape.now) × (3 * ports + 3 ≤ length tape.now) × (ports ≤ limits.ports) }
     requires type_words_in_bounds { at + limits.typeWords ≤ length code.old }
-    ensures { let e = env text.now tape.now btext.now table.now lines ports in
+    ensures { let e = env_in text.now tape.now bound.entry ports in
         Filled code.old code.new at result (port_nodes e n place) }
 {
-    let widths = lines.widths;
-    let j = found(text, place, btext, table, 0, widths);
+    let widths = bound.lines.widths;
+    let j = found(text, place, bound, 0, widths);
     if j < widths {
-        return single(code, at, table[3 * j + 2]);
+        return single(code, at, bound.table[3 * j + 2]);
     }
-    let len = type_code(
-        text,
-        tape,
-        n,
-        btext,
-        table,
-        lines,
-        ports,
-        Goal::Port(place),
-        code,
-        at,
-    );
+    let len = type_code(text, tape, n, bound, ports, Goal::Port(place), code, at);
     some(code, at, len)
 }
 
@@ -154,30 +129,26 @@ pub fn want_code(
     text: &[u8],
     tape: &[u32],
     n: usize,
-    btext: &[u8],
-    table: &[u32],
-    lines: Lines,
+    bound: Bound,
     ports: usize,
     i: usize,
     code: &mut [u32],
 ) -> usize
-    requires n_in_bounds { (n ≤ length tape.now) × (3 * ports + 3 ≤ length tape.now) × Lined lines table.now × (ports ≤ limits.ports) }
+    requires n_in_bounds { (n ≤ length tape.now) × (3 * ports + 3 ≤ length tape.now) × (ports ≤ limits.ports) }
     requires type_words_in_bounds { limits.typeWords * i + limits.typeWords ≤ length code.old }
-    ensures { let e = env text.now tape.now btext.now table.now lines ports in
+    ensures { let e = env_in text.now tape.now bound.entry ports in
         Filled code.old code.new (limits.typeWords * i) result (want_nodes e n i) }
 {
     let at = WORDS * i;
     if i < ports {
         let place = wide(tape[3 * (i + 1) + 1]);
-        return port_code(text, tape, n, btext, table, lines, ports, place, code, at);
+        return port_code(text, tape, n, bound, ports, place, code, at);
     }
     let len = type_code(
         text,
         tape,
         n,
-        btext,
-        table,
-        lines,
+        bound,
         ports,
         Goal::Memory(i - ports),
         code,

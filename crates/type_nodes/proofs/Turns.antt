@@ -254,11 +254,11 @@ module _ (e : Env) (o p v : ℕ) where
   unfolding node_of
   node_number h q = q ∙ rw h
 
-  pub node_value : o ≡ 2 → {r x f c : ℕ} → c ≡ p → r ≡ number_node x → x ≡ value_or e.table f (e.lines.widths + e.lines.values) → f ≡ e.lines.widths + index (names_on e.btext e.table e.lines.widths (e.lines.widths + e.lines.values - e.lines.widths)) (name_from e.text c) → r ≡ node_of e o p v
+  pub node_value : o ≡ 2 → {r x f c end : ℕ} → end ≡ e.lines.widths + e.lines.values → c ≡ p → r ≡ number_node x → x ≡ value_or e.table f end → f ≡ e.lines.widths + index (names_on e.btext e.table e.lines.widths (end - e.lines.widths)) (name_from e.text c) → r ≡ node_of e o p v
   unfolding node_of value_of
-  node_value h {c = c} y q u w =
-      let z : e.lines.widths + e.lines.values - e.lines.widths ≡ e.lines.values = omega arith in
-      q ∙ ap number_node (u ∙ ap (λ (j : ℕ). value_or e.table j (e.lines.widths + e.lines.values)) (w ∙ ap₂ (λ (n d : ℕ). e.lines.widths + index (names_on e.btext e.table e.lines.widths n) (name_from e.text d)) z y)) ∙ rw h
+  node_value h {f = f} {end = end} g y q u w =
+      let z : end - e.lines.widths ≡ e.lines.values = omega arith in
+      q ∙ ap number_node (u ∙ ap (value_or e.table f) g ∙ ap (λ (j : ℕ). value_or e.table j (e.lines.widths + e.lines.values)) (w ∙ ap₂ (λ (n d : ℕ). e.lines.widths + index (names_on e.btext e.table e.lines.widths n) (name_from e.text d)) z y)) ∙ rw h
 
   pub node_port : o ≡ 3 → {i c : ℕ} → c ≡ p → i ≡ index (signed_names e.text e.tape 1 e.ports) (name_from e.text c) → i * 8 + 1 ≡ node_of e o p v
   unfolding node_of port_of

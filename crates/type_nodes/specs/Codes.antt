@@ -9,6 +9,7 @@ use Rattle.tape.specs.declared.Node.{Node as Tape-as-Node}
 use Rattle.tape.specs.declared.Node.TheVariants.{Number, Name, Port, Join, Minus, Log, Whole, Most, Within, Other}
 use Rattle.tape.specs.Walk.{op_at, place_at, value_at}
 use Rattle.bindings.specs.declared.Lines.{Lines}
+use Rattle.bindings.specs.declared.bound.Bound.{Bound}
 use Rattle.row09_bindings.specs.Lines.{names_on}
 use Rattle.type_nodes.specs.declared.Role.{Role}
 use Rattle.type_nodes.specs.declared.Role.TheVariants.{Node, Keep, Signed, Declared, Memory, Over, Clear}
@@ -84,6 +85,9 @@ pub record Env : Type 0 where
 
 abbrev pub env : (text t btext table : List ℕ) → Lines → (ports : ℕ) → Env
 env text t btext table lines ports = record { text = text; tape = t; btext = btext; table = table; lines = lines; ports = ports }
+
+abbrev pub env_in : (text t : List ℕ) → Bound → (ports : ℕ) → Env
+env_in text t bound ports = env text t bound.text.now bound.table.now bound.lines ports
 
 -- the names of m items from one on
 unfoldable pub signed_names : (text t : List ℕ) → ℕ → ℕ → List (List ℕ)

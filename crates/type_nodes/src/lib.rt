@@ -1,5 +1,5 @@
 // What an item of the tape is to the declared types, and the node of a type that it stands for.
-// What comes in: the tape, with the texts and the bindings' table for its names. What goes out: an item's role and node,
+// What comes in: the tape, with its text and the bindings for its names. What goes out: an item's role and node,
 // how many ports and memories are declared, and where the type that is sought ends.
 #![tactic(auto)]
 
@@ -7,10 +7,9 @@ ghost use Rattle.std.specs.Prelude.{◌≡◌, ◌+◌, ◌-◌, ◌*◌, ◌/�
 ghost use Rattle.language.specs.Limits.{limits};
 ghost use Rattle.language.specs.Text.{index};
 ghost use Rattle.placed.specs.Placed.{name_from};
-ghost use Rattle.bindings.specs.Table.{Lined};
-ghost use Rattle.type_nodes.specs.Codes.{outside_of, role_of, is_over, tally, counted_of, counts_over, env, signed_names, value_or, number_node, node_at, stops_at, left_of, kept_of};
+ghost use Rattle.type_nodes.specs.Codes.{outside_of, role_of, is_over, tally, counted_of, counts_over, env_in, signed_names, value_or, number_node, node_at, stops_at, left_of, kept_of};
 
-use bindings::Lines;
+use bindings::Bound;
 use language::Type;
 use row09_bindings::found;
 use tape::{
@@ -141,28 +140,18 @@ fn value_at(table: &[u32], i: usize, end: usize) -> u32
 }
 
 // The node of an item.
-pub fn node(
-    text: &[u8],
-    tape: &[u32],
-    btext: &[u8],
-    table: &[u32],
-    lines: Lines,
-    ports: usize,
-    i: usize,
-) -> u32
-    requires { (3 * i + 2 < length tape.now) × (3 * ports + 3 ≤ length tape.now) × Lined lines table.now × (ports ≤ limits.ports) }
-    ensures { result ≡ node_at (env text.now tape.now btext.now table.now lines ports) tape.now i }
+pub fn node(text: &[u8], tape: &[u32], bound: Bound, ports: usize, i: usize) -> u32
+    requires { (3 * i + 2 < length tape.now) × (3 * ports + 3 ≤ length tape.now) × (ports ≤ limits.ports) }
+    ensures { result ≡ node_at (env_in text.now tape.now bound.entry ports) tape.now i }
 {
     let place = wide(tape[3 * i + 1]);
-    let widths = lines.widths;
-    let end = widths + lines.values;
     match tape[3 * i] {
         NUMBER => number_node(tape[3 * i + 2]),
-        ENVIRONMENT => number_node(value_at(
-            table,
-            found(text, place, btext, table, widths, end),
-            end,
-        )),
+        ENVIRONMENT => {
+            let end = bound.end();
+            let line = found(text, place, bound, bound.lines.widths, end);
+            number_node(value_at(bound.table, line, end))
+        }
         PORT => port_index(text, tape, ports, place) as u32 * 8 + 1,
         LOG => 2,
         FLOOR => 3,

@@ -6,7 +6,7 @@ use Rattle.early_rows.proofs.Rows.{refused, stops_at_law, goes_on_law, ends_law}
 use Rattle.early_rows.proofs.first.Goals as goal
 
 pub fault-requires : goal.fault-requires
-fault-requires c = c.requires.n_in_bounds.0
+fault-requires c = c.requires.n_in_bounds
 
 pub returns-in_err-passes : goal.returns-in_err-passes
 unfolding judged

@@ -6,4 +6,4 @@ use Rattle.row09_bindings.specs.Lines.{names_on}
 use Rattle.row09_bindings.proofs.found.Given as goal
 
 abbrev pub invariant-loop-i : goal.invariant-loop-i
-invariant-loop-i l = l.from + index (names_on l.btext l.table l.from (l.to - l.from)) (name_from l.text l.place) ≡ l.i + index (names_on l.btext l.table l.i (l.to - l.i)) (name_from l.text l.place)
+invariant-loop-i l = l.from + index (names_on l.bound.text.now l.bound.table.now l.from (l.to - l.from)) (name_from l.text l.place) ≡ l.i + index (names_on l.bound.text.now l.bound.table.now l.i (l.to - l.i)) (name_from l.text l.place)

@@ -7,4 +7,4 @@ use Rattle.row09_bindings.proofs.Lacks.{Lacks}
 use Rattle.row09_bindings.proofs.strange.Given as goal
 
 abbrev pub invariant-loop-i : goal.invariant-loop-i
-invariant-loop-i l = (l.from ≤ l.i) × ((ps : List ℕ) → l.initial.first ≡ place_told (earliest ps) → l.first ≡ place_told (earliest (Lacks (between l.text l.tape l.class 0 l.many) l.btext l.table l.to ps l.i)))
+invariant-loop-i l = (l.from ≤ l.i) × ((ps : List ℕ) → l.initial.first ≡ place_told (earliest ps) → l.first ≡ place_told (earliest (Lacks (between l.text l.tape l.class 0 l.many) l.bound.text.now l.bound.table.now l.to ps l.i)))

@@ -17,5 +17,5 @@ pub returns : goal.returns
 returns c =
     let args = c.args in
     let pre = c.requires in
-    λ ws a b h g. let e = strange_lines args.text.now args.tape.now args.n (args.n / 3) pre.n_in_bounds (omega arith) (omega arith) h g in
+    λ ws a b h g. let e = strange_lines args.text.now args.tape.now args.n (args.n / 3) pre (omega arith) (omega arith) h args.bound g _ c.end-end.ensures in
     c.strange.ensures _ (c.strange-values.ensures [] nowhere) ∙ e

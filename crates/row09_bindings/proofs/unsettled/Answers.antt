@@ -7,6 +7,6 @@ use Rattle.row09_bindings.proofs.unsettled.Goals as goal
 
 pub returns : goal.returns
 returns c = λ ws a b h g.
-    let opened = λ (j : ℕ). open_at c.args.text.now c.args.tape.now c.args.btext.now c.args.table.now c.args.lines j in
+    let opened = λ (j : ℕ). open_at c.args.text.now c.args.tape.now c.args.bound j in
     c.walk.ensures ∙ earliest_marked opened c.args.tape.now _
-    ∙ open_items c.args.text.now c.args.tape.now c.args.n _ c.requires.n_in_bounds (omega arith) (omega arith) h g
+    ∙ open_items c.args.text.now c.args.tape.now c.args.n _ c.requires (omega arith) (omega arith) h c.args.bound g

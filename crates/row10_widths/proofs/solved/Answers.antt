@@ -11,13 +11,13 @@ use Rattle.row10_widths.proofs.solved.Goals as goal
 pub overflow_add-all : goal.overflow_add-all
 overflow_add-all c =
     let s = c in
-    let z = few_declared s.args.text.now s.args.tape.now s.args.n s.args.btext.now s.args.table.now s.args.lines s.requires.n_in_bounds.0 s.requires.asked.3 c.declared-c.ensures in
+    let z = few_declared s.args.text.now s.args.tape.now s.args.n s.args.bound s.requires.n_in_bounds.0 s.requires.asked.3 c.declared-c.ensures in
     omega (arith, z.0, z.1)
 
 pub loop-i-init : goal.loop-i-init
 loop-i-init c =
     let s = c in
-    let z = few_declared s.args.text.now s.args.tape.now s.args.n s.args.btext.now s.args.table.now s.args.lines s.requires.n_in_bounds.0 s.requires.asked.3 c.declared-c.ensures in
+    let z = few_declared s.args.text.now s.args.tape.now s.args.n s.args.bound s.requires.n_in_bounds.0 s.requires.asked.3 c.declared-c.ensures in
     (omega (arith, z.0, z.1), z.0, z.2, refl, refl, refl, no_slots _ _ _ _ _)
 
 pub loop-i-preserved : goal.loop-i-preserved
@@ -61,7 +61,7 @@ solve-requires c =
     record {
       coded = (
         terms_of s.requires.asked.1 s.requires.asked.2,
-        (laid s.args.text.now s.args.tape.now s.args.n s.args.btext.now s.args.table.now s.args.lines s.requires.n_in_bounds.0
+        (laid s.args.text.now s.args.tape.now s.args.n s.args.bound s.requires.n_in_bounds.0
             s.requires.asked.3 declared.ensures l.code l.starts l.ends l.i (omega arith) l.invariant.6 l.invariant.3 l.invariant.4
             l.invariant.5).coded,
       );
@@ -72,12 +72,12 @@ pub returns-then-solve : goal.returns-then-solve
 returns-then-solve c = λ ws a b h.
     let s = c in
     let l = c.loop-i in
-    let r = laid s.args.text.now s.args.tape.now s.args.n s.args.btext.now s.args.table.now s.args.lines s.requires.n_in_bounds.0 h c.declared-c.ensures l.code l.starts l.ends l.i (omega arith) l.invariant.6 l.invariant.3 l.invariant.4 l.invariant.5 in
+    let r = laid s.args.text.now s.args.tape.now s.args.n s.args.bound s.requires.n_in_bounds.0 h c.declared-c.ensures l.code l.starts l.ends l.i (omega arith) l.invariant.6 l.invariant.3 l.invariant.4 l.invariant.5 in
     r.yes _ _ c.if-solve.true (c.solve.ensures (terms_of a b) r.coded)
 
 pub returns : goal.returns
 returns c = λ ws a b h.
     let s = c in
     let l = c.loop-i in
-    let r = laid s.args.text.now s.args.tape.now s.args.n s.args.btext.now s.args.table.now s.args.lines s.requires.n_in_bounds.0 h c.declared-c.ensures l.code l.starts l.ends l.i (omega arith) l.invariant.6 l.invariant.3 l.invariant.4 l.invariant.5 in
+    let r = laid s.args.text.now s.args.tape.now s.args.n s.args.bound s.requires.n_in_bounds.0 h c.declared-c.ensures l.code l.starts l.ends l.i (omega arith) l.invariant.6 l.invariant.3 l.invariant.4 l.invariant.5 in
     r.no _ _ c.if-solve.false (c.solve.ensures (terms_of a b) r.coded)

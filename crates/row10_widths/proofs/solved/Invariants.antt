@@ -2,8 +2,8 @@
 use mathlib.Core.Path.{◌≡◌}
 use Prim.Native.Nat.{◌+◌, ◌≤◌, ◌-◌, ◌*◌}
 use lib.ListN.{length}
-use Rattle.type_nodes.specs.Codes.{env, Slotted}
+use Rattle.type_nodes.specs.Codes.{env_in, Slotted}
 use Rattle.row10_widths.proofs.solved.Given as goal
 
 abbrev pub invariant-loop-i : goal.invariant-loop-i
-invariant-loop-i l = (l.all ≤ 24) × (l.ports ≤ 16) × (3 * l.ports + 3 ≤ length l.tape) × (length l.code ≡ 1536) × (length l.starts ≡ 24) × (length l.ends ≡ 24) × Slotted (env l.text l.tape l.btext l.table l.lines l.ports) l.n l.code l.starts l.ends l.i
+invariant-loop-i l = (l.all ≤ 24) × (l.ports ≤ 16) × (3 * l.ports + 3 ≤ length l.tape) × (length l.code ≡ 1536) × (length l.starts ≡ 24) × (length l.ends ≡ 24) × Slotted (env_in l.text l.tape l.bound l.ports) l.n l.code l.starts l.ends l.i

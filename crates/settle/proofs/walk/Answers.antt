@@ -50,6 +50,6 @@ unfolding state_of
 returns c =
     let t = c in
     let l = c.loop-i.invariant in
-    let q : c.loop-i.i ≡ t.args.given.many.items = omega arith in
-    let e = ap (λ (s : State). s.out) (l.holds ∙ ap (walked (around_of t.args.given.text.now t.args.given.tape.now t.args.given.many.items t.args.given.btext.now t.args.given.table.now t.args.given.many.lines t.args.given.widths.now) t.args.given.tape.now) q) in
+    let q : c.loop-i.i ≡ t.args.given.many = omega arith in
+    let e = ap (λ (s : State). s.out) (l.holds ∙ ap (walked (around_of t.args.given.text.now t.args.given.tape.now t.args.given.many t.args.given.bound.text.now t.args.given.bound.table.now t.args.given.bound.lines t.args.given.widths.now) t.args.given.tape.now) q) in
     record { long = sym (length-take-le c.loop-i.far.out c.loop-i.out (omega (arith, l.bounded.out, q, l.long, c.requires))) ∙ ap length e; items = e; past = l.kept.past }

@@ -3,7 +3,7 @@ use native.Mathlib.Omega.{arith}
 use mathlib.Core.Path.{sym}
 use Prim.Native.Nat.{ℕ}
 use lib.ListN.{replicate, length-replicate}
-use Rattle.tipi.proofs.Judging.{after_as}
+use Rattle.tipi.proofs.Judging.{passed_up, after_as}
 use Rattle.tipi.proofs.Texts.{worded_refused, few_numbers, met, tape_size}
 use Rattle.tipi.proofs.worded.Goals as goal
 
@@ -15,21 +15,19 @@ judged-requires c =
     let args = c.args in
     let pre = c.requires in
     let read = c.read in
-    let n = c.in-Tape in
-    let q = few_numbers read.ensures.room n.is in
+    let q = few_numbers read.ensures.room c.in_ok-read.was in
     let l = tape_size args.text.now (replicate 24576 0) (length-replicate {A = ℕ} 24576 0) read.ensures.tape in
-    let M = met args.text.now (replicate 24576 0) pre.text_len_bound.0 (length-replicate {A = ℕ} 24576 0) read.ensures.answer read.ensures.tape
-    read.ensures.room n.is pre.binds.1 in
-    record { n_in_bounds = (omega (arith, q, l), q, pre.text_len_bound.1); texts_held = (M.ws, M.actor, pre.binds.0, M.held) }
+    let M = met args.text.now (replicate 24576 0) args.bound pre.text_len_bound (length-replicate {A = ℕ} 24576 0) read.ensures.answer read.ensures.tape
+    read.ensures.room c.in_ok-read.was pre.binds.1 in
+    record { n_in_bounds = (omega (arith, q, l), q); texts_held = (M.ws, M.actor, pre.binds.0, M.held) }
 
-pub returns-in-Tape : goal.returns-in-Tape
-returns-in-Tape c =
+pub returns : goal.returns
+returns c =
     let args = c.args in
     let pre = c.requires in
     let read = c.read in
-    let n = c.in-Tape in
-    λ b h. let M = met args.text.now (replicate 24576 0) pre.text_len_bound.0 (length-replicate {A = ℕ} 24576 0) read.ensures.answer read.ensures.tape
-    read.ensures.room n.is h in after_as M.whole (c.judged.ensures M.ws M.actor b M.held)
+    λ b h. let M = met args.text.now (replicate 24576 0) args.bound pre.text_len_bound (length-replicate {A = ℕ} 24576 0) read.ensures.answer read.ensures.tape
+    read.ensures.room c.in_ok-read.was h in after_as M.whole (c.judged.ensures M.ws M.actor b M.held)
 
-pub returns-in-Refused : goal.returns-in-Refused
-returns-in-Refused c = λ b h. worded_refused c.args.text.now (replicate 24576 0) b _ c.requires.text_len_bound.0 c.read.ensures.answer c.in-Refused.is
+pub returns-in_err-read : goal.returns-in_err-read
+returns-in_err-read c = λ b h. passed_up _ c.from_residual.ensures.1 (worded_refused c.args.text.now (replicate 24576 0) b _ _ c.requires.text_len_bound c.read.ensures.answer c.in_err-read.was)

@@ -3,7 +3,7 @@ use native.Mathlib.Omega.{arith}
 use mathlib.Core.Path.{refl, sym, ap, ◌∙◌}
 use Prim.Native.Nat.{ℕ}
 use lib.ListN.{take, drop}
-use Rattle.type_nodes.specs.Codes.{env}
+use Rattle.type_nodes.specs.Codes.{env_in}
 use Rattle.type_codes.proofs.Slots.{kept_take, kept_most}
 use Rattle.type_nodes.proofs.Turns.{search_stop, search_more, search_end}
 use Rattle.type_codes.proofs.type_code.Goals as goal
@@ -24,7 +24,7 @@ returns-then-stops c =
       is = ap
           (λ (j : ℕ). take j (drop args.at loop.code)) c.kept.ensures ∙ kept_take role-of.result loop.len (drop args.at loop.code) ∙
           search_stop args.tape.now args.n loop.i pre.n_in_bounds.0
-          (env args.text.now args.tape.now args.btext.now args.table.now args.lines args.ports) loop.g
+          (env_in args.text.now args.tape.now args.bound args.ports) loop.g
           (take loop.len (drop args.at loop.code)) loop-test.true role-of.ensures wide.ensures
           (sym c.stops.ensures ∙ c.if-stops.true) ∙ loop.invariant.3;
       before = loop.invariant.2;
@@ -46,7 +46,7 @@ loop-i-preserved c =
       grown.ensures.long ∙ loop.invariant.1,
       grown.ensures.before ∙ loop.invariant.2,
       search_more args.tape.now
-          args.n loop.i pre.n_in_bounds.0 (env args.text.now args.tape.now args.btext.now args.table.now args.lines args.ports)
+          args.n loop.i pre.n_in_bounds.0 (env_in args.text.now args.tape.now args.bound args.ports)
           loop.g (take loop.len (drop args.at loop.code)) loop-test.true role-of.ensures wide.ensures
           (sym stops.ensures ∙ if1.false) c.left-g.ensures grown.ensures.is ∙ loop.invariant.3,
     )
@@ -59,7 +59,7 @@ returns c =
     record {
       few = omega arith;
       is = search_end args.tape.now args.n loop.i pre.n_in_bounds.0
-          (env args.text.now args.tape.now args.btext.now args.table.now args.lines args.ports) loop.g
+          (env_in args.text.now args.tape.now args.bound args.ports) loop.g
           (take loop.len (drop args.at loop.code)) (omega arith) ∙ loop.invariant.3;
       before = loop.invariant.2;
       long = loop.invariant.1;

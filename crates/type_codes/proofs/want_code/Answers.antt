@@ -1,6 +1,6 @@
 -- `row10_widths::codes::want_code` meets its contract: a port's width, or a memory's. Assumes nothing.
 use native.Mathlib.Omega.{arith}
-use Rattle.type_nodes.specs.Codes.{env}
+use Rattle.type_nodes.specs.Codes.{env_in}
 use Rattle.type_codes.proofs.Slots.{filled_as, filled_some, port_nodes_law, memory_nodes}
 use Rattle.type_codes.proofs.want_code.Goals as goal
 
@@ -10,7 +10,7 @@ returns-then-i-ports c =
     let if1 = c.if-i-ports in
     let wide = c.wide-place in
     filled_as
-    (port_nodes_law (env args.text.now args.tape.now args.btext.now args.table.now args.lines args.ports) args.n args.i
+    (port_nodes_law (env_in args.text.now args.tape.now args.bound args.ports) args.n args.i
     if1.true wide.ensures)
     c.port_code.ensures
 
@@ -19,5 +19,5 @@ returns c =
     let args = c.args in
     let type-code = c.type_code-len in
     filled_some type-code.ensures c.some.ensures
-    (memory_nodes (env args.text.now args.tape.now args.btext.now args.table.now args.lines args.ports) args.n
+    (memory_nodes (env_in args.text.now args.tape.now args.bound args.ports) args.n
     args.i (omega arith))

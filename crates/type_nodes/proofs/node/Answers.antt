@@ -2,7 +2,7 @@
 use native.Mathlib.Omega.{arith}
 use Rattle.std.proofs.lemmas.Grind.{common_steps}
 use Rattle.tape.specs.Walk.{op_at, place_at, value_at}
-use Rattle.type_nodes.specs.Codes.{env, node_of}
+use Rattle.type_nodes.specs.Codes.{env_in, node_of}
 use Rattle.type_nodes.proofs.Turns.{node_number, node_value, node_port}
 use Rattle.type_nodes.proofs.node.Goals as goal
 
@@ -18,7 +18,7 @@ overflow_add-result c = omega (arith, c.port_index.ensures.1)
 pub returns-in-1 : goal.returns-in-1
 returns-in-1 c =
     let args = c.args in
-    node_number (env args.text.now args.tape.now args.btext.now args.table.now args.lines args.ports)
+    node_number (env_in args.text.now args.tape.now args.bound args.ports)
     (op_at args.tape.now args.i) (place_at args.tape.now args.i) (value_at args.tape.now args.i) c.in-1.is
     c.number_node.ensures
 
@@ -27,15 +27,15 @@ returns-in-2 c =
     let args = c.args in
     let wide = c.wide-place in
     let match = c.in-2 in
-    node_value (env args.text.now args.tape.now args.btext.now args.table.now args.lines args.ports)
-    (op_at args.tape.now args.i) (place_at args.tape.now args.i) (value_at args.tape.now args.i) match.is wide.ensures
-    c.number_node-in-2.ensures c.value_at.ensures c.found.ensures
+    node_value (env_in args.text.now args.tape.now args.bound args.ports)
+    (op_at args.tape.now args.i) (place_at args.tape.now args.i) (value_at args.tape.now args.i) match.is c.end-end.ensures wide.ensures
+    c.number_node-in-2.ensures c.value_at.ensures c.found-line.ensures
 
 pub returns-in-3 : goal.returns-in-3
 returns-in-3 c =
     let args = c.args in
     let wide = c.wide-place in
-    node_port (env args.text.now args.tape.now args.btext.now args.table.now args.lines args.ports)
+    node_port (env_in args.text.now args.tape.now args.bound args.ports)
     (op_at args.tape.now args.i) (place_at args.tape.now args.i) (value_at args.tape.now args.i) c.in-3.is
     wide.ensures c.port_index.ensures.0
 

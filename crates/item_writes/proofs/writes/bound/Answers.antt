@@ -12,5 +12,5 @@ use Rattle.item_writes.proofs.writes.bound.Goals as goal
 pub returns : goal.returns
 returns c =
     let t = c in
-    let l = lines_on t.args.given.btext.now t.args.given.table.now t.args.given.many.lines.widths t.args.given.many.lines.values in
+    let l = lines_on t.args.given.bound.text.now t.args.given.bound.table.now t.args.given.bound.lines.widths t.args.given.bound.lines.values in
     c.amount.ensures _ (small_amount c.from.result (omega (arith, c.from.ensures, c.value-x.type_inv)) ∙ ap amount_of (c.from.ensures ∙ c.value-x.ensures ∙ ap (λ (q : ℕ). value_in l (name_from t.args.given.text.now q)) c.wide.ensures))

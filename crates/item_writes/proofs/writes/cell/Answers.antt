@@ -10,6 +10,6 @@ returns c =
     let t = c.args in
     record {
       is = λ btext table lines s.
-          cell_looked (around_of t.given.text.now t.given.tape.now t.given.many.items btext table lines t.given.widths.now) s t.op t.place _ _ _ _ _ _ c.numbered-k.ensures.0
+          cell_looked (around_of t.given.text.now t.given.tape.now t.given.many btext table lines t.given.widths.now) s t.op t.place _ _ _ _ _ _ c.numbered-k.ensures.0
           c.cells_before.ensures c.narrow-first.ensures (c.memory_width-w.ensures.is btext table lines s) c.narrow.ensures c.size_of.ensures;
     }

@@ -21,7 +21,7 @@ returns-then-said c = λ btext table lines s el ev.
     let f : c.latest-k.result ≡ index s.lets (name_from t.args.given.text.now t.args.place) = c.latest-k.ensures ∙ ap₂ index (sym el) n in
     let g : c.saturating_sub-slot.result ≡ s.vals - suc (index s.lets (name_from t.args.given.text.now t.args.place)) = omega (arith, f, ev, c.saturating_sub.ensures, c.saturating_sub-slot.ensures) in
     ap (λ (q : ℕ). six HELD t.args.place q 0 0 0) (c.narrow.ensures ∙ ap operand g)
-    ∙ sym (read_held (around_of t.args.given.text.now t.args.given.tape.now t.args.given.many.items btext table lines t.args.given.widths.now) s t.args.place e)
+    ∙ sym (read_held (around_of t.args.given.text.now t.args.given.tape.now t.args.given.many btext table lines t.args.given.widths.now) s t.args.place e)
 
 pub returns : goal.returns
 unfolding numbers_of around_of
@@ -30,4 +30,4 @@ returns c = λ btext table lines s el ev.
     let n = c.name-called.ensures ∙ ap (name_from t.args.given.text.now) c.wide.ensures in
     let e : among s.lets (name_from t.args.given.text.now t.args.place) ≡ false = ap₂ among el (sym n) ∙ sym c.said.ensures ∙ c.if-said.false in
     c.port.ensures.is btext table lines s
-    ∙ sym (read_port (around_of t.args.given.text.now t.args.given.tape.now t.args.given.many.items btext table lines t.args.given.widths.now) s t.args.place e)
+    ∙ sym (read_port (around_of t.args.given.text.now t.args.given.tape.now t.args.given.many btext table lines t.args.given.widths.now) s t.args.place e)

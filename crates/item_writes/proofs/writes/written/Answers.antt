@@ -28,28 +28,28 @@ pub returns-in-18 : goal.returns-in-18
 unfolding state_of
 returns-in-18 c =
     λ out. let t = c in c.read.ensures
-    t.args.given.btext.now t.args.given.table.now t.args.given.many.lines
+    t.args.given.bound.text.now t.args.given.bound.table.now t.args.given.bound.lines
     (state_of t.args.given.text.now t.args.given.tape.now t.args.code.now t.args.starts.now out t.args.i t.args.far) refl refl ∙ sym
     (written_read _ _ _ _ _ c.in-18.is)
 
 pub returns-in-19 : goal.returns-in-19
 returns-in-19 c =
     λ out. let t = c in c.cell.ensures.is
-    t.args.given.btext.now t.args.given.table.now t.args.given.many.lines
+    t.args.given.bound.text.now t.args.given.bound.table.now t.args.given.bound.lines
     (state_of t.args.given.text.now t.args.given.tape.now t.args.code.now t.args.starts.now out t.args.i t.args.far) ∙ sym
     (written_cell _ _ _ _ _ c.in-19.is)
 
 pub returns-in-34 : goal.returns-in-34
 returns-in-34 c =
     λ out. let t = c in c.cell-in-34.ensures.is
-    t.args.given.btext.now t.args.given.table.now t.args.given.many.lines
+    t.args.given.bound.text.now t.args.given.bound.table.now t.args.given.bound.lines
     (state_of t.args.given.text.now t.args.given.tape.now t.args.code.now t.args.starts.now out t.args.i t.args.far) ∙ sym
     (written_write _ _ _ _ _ c.in-34.is)
 
 pub returns-in-33 : goal.returns-in-33
 returns-in-33 c =
     λ out. let t = c in c.port.ensures.is
-    t.args.given.btext.now t.args.given.table.now t.args.given.many.lines
+    t.args.given.bound.text.now t.args.given.bound.table.now t.args.given.bound.lines
     (state_of t.args.given.text.now t.args.given.tape.now t.args.code.now t.args.starts.now out t.args.i t.args.far) ∙ sym
     (written_assign _ _ _ _ _ c.in-33.is)
 
@@ -61,14 +61,14 @@ pub returns-in-44 : goal.returns-in-44
 unfolding state_of
 returns-in-44 c =
     λ out. let t = c in c.memory.ensures.is
-    t.args.given.btext.now t.args.given.table.now t.args.given.many.lines
+    t.args.given.bound.text.now t.args.given.bound.table.now t.args.given.bound.lines
     (state_of t.args.given.text.now t.args.given.tape.now t.args.code.now t.args.starts.now out t.args.i t.args.far) ∙ sym
     (written_memory _ _ _ _ _ c.in-44.is)
 
 pub returns-in-46 : goal.returns-in-46
 returns-in-46 c =
     λ out. let t = c in c.signed.ensures.is
-    t.args.given.btext.now t.args.given.table.now t.args.given.many.lines
+    t.args.given.bound.text.now t.args.given.bound.table.now t.args.given.bound.lines
     (state_of t.args.given.text.now t.args.given.tape.now t.args.code.now t.args.starts.now out t.args.i t.args.far) ∙ sym
     (written_signed _ _ _ _ _ c.in-46.is)
 
@@ -76,7 +76,7 @@ pub returns-in_default : goal.returns-in_default
 unfolding around_of state_of
 returns-in_default c =
     λ out. let t = c in c.typed.ensures
-    (around_of t.args.given.text.now t.args.given.tape.now t.args.given.many.items t.args.given.btext.now t.args.given.table.now t.args.given.many.lines t.args.given.widths.now)
+    (around_of t.args.given.text.now t.args.given.tape.now t.args.given.many t.args.given.bound.text.now t.args.given.bound.table.now t.args.given.bound.lines t.args.given.widths.now)
     (state_of t.args.given.text.now t.args.given.tape.now t.args.code.now t.args.starts.now out t.args.i t.args.far) refl refl refl
     (record {
       given = omega arith;

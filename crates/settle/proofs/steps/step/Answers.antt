@@ -85,13 +85,13 @@ returns c =
         past = rw (out, put.ensures.put)
             (unstored t.args.out.now (numbers_of written.result) t.args.far.out fits);
       };
-      state = turn t.args.given.text.now t.args.given.tape.now t.args.given.many.items t.args.given.btext.now t.args.given.table.now t.args.given.many.lines t.args.given.widths.now t.args.code.now t.args.starts.now t.args.out.now t.args.i t.args.far _ _ _ _
+      state = turn t.args.given.text.now t.args.given.tape.now t.args.given.many t.args.given.bound t.args.given.widths.now t.args.code.now t.args.starts.now t.args.out.now t.args.i t.args.far _ _ _ _
           b.lets
           (record {
             types = g.is ∙ growth.ensures t.args.given.widths.now _ ∙ ap
                 (grown
-                (around_of t.args.given.text.now t.args.given.tape.now t.args.given.many.items t.args.given.btext.now t.args.given.table.now
-                t.args.given.many.lines t.args.given.widths.now)
+                (around_of t.args.given.text.now t.args.given.tape.now t.args.given.many t.args.given.bound.text.now t.args.given.bound.table.now
+                t.args.given.bound.lines t.args.given.widths.now)
                 o (place_at t.args.given.tape.now t.args.i) (value_at t.args.given.tape.now t.args.i))
                 (the-without.ensures.1 t.args.code.now ∙ ap
                 (λ (n : ℕ). without n (waits_in t.args.code.now t.args.starts.now t.args.far.waits)) (wide.ensures ∙ takes.ensures));

@@ -12,10 +12,10 @@ made-requires c =
     (a.requires.many_le_most_items.0, a.requires.many_le_most_items.1, search rules, g, search rules)
 
 pub returns-in-Some : goal.returns-in-Some
-returns-in-Some c = λ ws s h. sizes_refused h c.fault.ensures.first _ c.in-Some.is
+returns-in-Some c = λ ws s h. rw c.refused.ensures (sizes_refused h c.fault.ensures.first _ c.in-Some.is)
 
 pub returns-in-Some-fault : goal.returns-in-Some-fault
-returns-in-Some-fault c = λ ws s h. presence_refused h c.fault.ensures.first c.fault-in-None.ensures c.in-None.is _ c.in-Some-fault.is
+returns-in-Some-fault c = λ ws s h. rw c.refused-in-Some-fault.ensures (presence_refused h c.fault.ensures.first c.fault-in-None.ensures c.in-None.is _ c.in-Some-fault.is)
 
 pub returns-in-None-fault : goal.returns-in-None-fault
 returns-in-None-fault c =

@@ -8,9 +8,9 @@ finished-requires c =
     let b = c in
     let a = b.args in
     let e = c.settled-many.ensures in
-    let q = settled_count a.text.now a.tape.now a.n a.btext.now a.table.now a.lines a.widths.now e.long in
+    let q = settled_count a.text.now a.tape.now a.n a.bound a.widths.now e.long in
     let z = whole_there _ e.long e.items in
-    let h = settled_held a.text.now a.tape.now a.n a.btext.now a.table.now a.lines a.widths.now e.long e.items b.requires.n_in_bounds.0 b.requires.heard.3 b.requires.heard.4 in
+    let h = settled_held a.text.now a.tape.now a.n a.bound a.widths.now e.long e.items b.requires.n_in_bounds.0 b.requires.heard.3 b.requires.heard.4 in
     record { many_le_most_items = (omega (arith, q.0, q.1, b.requires.n_in_bounds.1), omega (arith, q.0, z)); settled = (_, _, h) }
 
 pub returns : goal.returns
@@ -19,4 +19,4 @@ returns c =
     let a = b.args in
     let e = c.settled-many.ensures in
     let f = c.finished.ensures in
-    λ ws x y h least. f ws _ (settled_held a.text.now a.tape.now a.n a.btext.now a.table.now a.lines a.widths.now e.long e.items b.requires.n_in_bounds.0 h least)
+    λ ws x y h least. f ws _ (settled_held a.text.now a.tape.now a.n a.bound a.widths.now e.long e.items b.requires.n_in_bounds.0 h least)
