@@ -11,7 +11,7 @@ pub parsed-requires : goal.parsed-requires
 parsed-requires c = listed_filed c.requires
 
 pub returns-in-Some : goal.returns-in-Some
-returns-in-Some c = let e = c.left_out.ensures in record { answer = left_said c.requires e c.in-Some.is; tape = left_after c.requires e _ c.in-Some.is; room = tt }
+returns-in-Some c = let e = c.left_out.ensures in rw c.refused.ensures (record { answer = left_said c.requires e c.in-Some.is; tape = left_after c.requires e _ c.in-Some.is; room = tt })
 
 pub returns-in-None : goal.returns-in-None
 returns-in-None c = let e = c.left_out.ensures in record {

@@ -15,7 +15,7 @@ returns-in-Ok c = parsed_tree c.requires c.mark.ensures (search rules) c.in-Ok.e
 
 pub returns-in-Err : goal.returns-in-Err
 unfolding runs_at places_on
-returns-in-Err c = parsed_fault c.requires c.mark.ensures (search rules) c.in-Err.ensures c.place_or-place.ensures
+returns-in-Err c = rw c.refused.ensures (parsed_fault c.requires c.mark.ensures (search rules) c.in-Err.ensures c.place_or-place.ensures)
 
 pub slice_bounds-copy_from_slice-end : goal.slice_bounds-copy_from_slice-end
 unfolding runs_at places_on
