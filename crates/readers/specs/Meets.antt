@@ -12,6 +12,11 @@ use Rattle.readers.specs.declared.Misfit.{Misfit}
 abbrev pub Out : Type 0
 Out = Result (ℕ × ℕ) Misfit
 
+-- the same of a reader that answers the next word, where the items on the tape are n numbers then
+abbrev pub came : Result ℕ Misfit → ℕ → Out
+came (Ok x) n = Ok (x, n)
+came (Err e) n = Err e
+
 -- a word to look at, or the end
 pub record Inside (w : List ℕ) (at : ℕ) : Type 0 where
   pub few : count w ≤ most_items

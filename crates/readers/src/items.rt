@@ -8,42 +8,55 @@ use crate::look::{binary_number, place, unary_number};
 use crate::{Table, Tape};
 use tape::{BINARY, UNARY};
 
-// An item with no place.
-pub fn emit(tape: &mut Tape, n: usize, op: u32, v: u32) -> usize
-    requires { n + 3 ≤ longest }
-    ensures { On tape.old n (op ∷ 0 ∷ v ∷ []) result tape.new }
-{
-    tape[n] = op;
-    tape[n + 1] = 0;
-    tape[n + 2] = v;
-    n + 3
+// The items that are on a tape so far, and how many numbers they are.
+#[derive(Drop)]
+pub struct Items {
+    pub tape: Tape,
+    pub n: usize,
 }
 
-// An item with the place of a word.
-pub fn put(words: &Table, tape: &mut Tape, at: usize, n: usize, op: u32, v: u32) -> usize
-    requires n_bound { n + 3 ≤ longest }
-    requires within { Within words.now at }
-    ensures { On tape.old n (op ∷ place_at words.now at ∷ v ∷ []) result tape.new }
-{
-    tape[n] = op;
-    tape[n + 1] = place(words, at);
-    tape[n + 2] = v;
-    n + 3
-}
+impl Items {
+    fn push(&mut self, op: u32, at: u32, v: u32)
+        requires { self.old.n + 3 ≤ longest }
+        ensures { On self.old.tape self.old.n (op ∷ at ∷ v ∷ []) self.new.n self.new.tape }
+    {
+        self.tape[self.n] = op;
+        self.tape[self.n + 1] = at;
+        self.tape[self.n + 2] = v;
+        self.n += 3;
+    }
 
-// The item of an operator before its operand, by the kind of its word.
-pub fn unary_item(words: &Table, tape: &mut Tape, at: usize, n: usize, k: u32) -> usize
-    requires n_bound { n + 3 ≤ longest }
-    requires within { Within words.now at }
-    ensures { On tape.old n (item UNARY (place_at words.now at) (unary_of k)) result tape.new }
-{
-    put(words, tape, at, n, UNARY, unary_number(k))
-}
+    // An item with no place.
+    pub fn emit(&mut self, op: u32, v: u32)
+        requires { self.old.n + 3 ≤ longest }
+        ensures { On self.old.tape self.old.n (op ∷ 0 ∷ v ∷ []) self.new.n self.new.tape }
+    {
+        self.push(op, 0, v);
+    }
 
-// The item of an operator between two operands, by the kind of its word.
-pub fn binary_item(tape: &mut Tape, n: usize, k: u32) -> usize
-    requires { n + 3 ≤ longest }
-    ensures { On tape.old n (item BINARY 0 (binary_of k)) result tape.new }
-{
-    emit(tape, n, BINARY, binary_number(k))
+    // An item with the place of a word.
+    pub fn put(&mut self, words: &Table, at: usize, op: u32, v: u32)
+        requires n_bound { self.old.n + 3 ≤ longest }
+        requires within { Within words.now at }
+        ensures { On self.old.tape self.old.n (op ∷ place_at words.now at ∷ v ∷ []) self.new.n self.new.tape }
+    {
+        self.push(op, place(words, at), v);
+    }
+
+    // The item of an operator before its operand, by the kind of its word.
+    pub fn unary_item(&mut self, words: &Table, at: usize, k: u32)
+        requires n_bound { self.old.n + 3 ≤ longest }
+        requires within { Within words.now at }
+        ensures { On self.old.tape self.old.n (item UNARY (place_at words.now at) (unary_of k)) self.new.n self.new.tape }
+    {
+        self.put(words, at, UNARY, unary_number(k));
+    }
+
+    // The item of an operator between two operands, by the kind of its word.
+    pub fn binary_item(&mut self, k: u32)
+        requires { self.old.n + 3 ≤ longest }
+        ensures { On self.old.tape self.old.n (item BINARY 0 (binary_of k)) self.new.n self.new.tape }
+    {
+        self.emit(BINARY, binary_number(k));
+    }
 }

@@ -6,7 +6,7 @@
 mod items;
 mod look;
 
-pub use items::{binary_item, emit, put, unary_item};
+pub use items::Items;
 pub use look::{
     arm_ends, expect, kind, level, long, memory, place, prefix, sum, the_p, the_type, value,
 };
@@ -34,6 +34,3 @@ pub const LOOSEST: u32 = 9;
 pub struct Misfit {
     pub at: usize,
 }
-
-// Where a reader came to: the index of the next word, and how long the tape is.
-pub type Out = Result<(usize, usize), Misfit>;

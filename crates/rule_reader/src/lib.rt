@@ -1,160 +1,163 @@
 // Rules and groups: the lists of statements, the rules with their entries, and the constraint that ends an actor.
-// What comes in: the words, the tape, the index of the first word and the length of the tape. What goes out: the items of
-// what was read, after those that are on the tape, or the first word that does not fit.
+// What comes in: the words, the items on the tape, the index of the first word. What goes out: the items of what was read,
+// after those that are on the tape, and the index of the next word, or the first word that does not fit.
 #![tactic(auto)]
 
 mod lists;
 mod statement;
 
 ghost use Rattle.signs.specs.Kinds.{and_kind, let_kind, name_kind, or_kind};
-ghost use Rattle.readers.specs.Meets.{Room, Starts};
+ghost use Rattle.readers.specs.Meets.{Room, Starts, came};
 ghost use Rattle.rule_reader.specs.Rules.{IsVals, IsAssignments, IsScoped, IsStatements, IsRule, IsRules, IsGroup, IsGroups, IsConstraint};
 ghost use Rattle.rule_reader.specs.Tails.{IsWritten, IsBody};
 
 use crate::lists::entries;
 use crate::statement::{assignment, val};
-use readers::{Misfit, Out, Table, Tape, emit, expect, kind, put};
+use readers::{Items, Misfit, Table, expect, kind};
 use signs::kinds;
 use tape::{END, GROUPED, LET, OR, RULE, RULED};
 
 // A list is read by a loop of none or more; where one or more is asked for, the first word is tested before.
-fn vals(words: &Table, tape: &mut Tape, at: usize, n: usize) -> Out
-    requires { Room words.now at n }
-    ensures { IsVals words.now at n tape.old result tape.new }
+fn vals(words: &Table, items: &mut Items, at: usize) -> Result<usize, Misfit>
+    requires { Room words.now at items.old.n }
+    ensures { IsVals words.now at items.old.n items.old.tape (came result items.new.n) items.new.tape }
 {
-    let (mut x, mut m) = (at, n);
+    let mut x = at;
     while kind(words, x) == kinds::VAL {
-        (x, m) = val(words, tape, x + 1, m)?;
+        x = val(words, items, x + 1)?;
     }
-    Ok((x, m))
+    Ok(x)
 }
 
-fn assignments(words: &Table, tape: &mut Tape, at: usize, n: usize) -> Out
-    requires { Room words.now at n }
-    ensures { IsAssignments words.now at n tape.old result tape.new }
+fn assignments(words: &Table, items: &mut Items, at: usize) -> Result<usize, Misfit>
+    requires { Room words.now at items.old.n }
+    ensures { IsAssignments words.now at items.old.n items.old.tape (came result items.new.n) items.new.tape }
 {
-    let (mut x, mut m) = (at, n);
+    let mut x = at;
     while kind(words, x) == kinds::NAME {
-        (x, m) = assignment(words, tape, x, m)?;
+        x = assignment(words, items, x)?;
     }
-    Ok((x, m))
+    Ok(x)
 }
 
 // `let` with its `val`s, then `in` and what it ends with.
-fn scoped(words: &Table, tape: &mut Tape, at: usize, n: usize) -> Out
-    requires { Starts words.now at n let_kind }
-    ensures { IsScoped words.now at n tape.old result tape.new }
+fn scoped(words: &Table, items: &mut Items, at: usize) -> Result<usize, Misfit>
+    requires { Starts words.now at items.old.n let_kind }
+    ensures { IsScoped words.now at items.old.n items.old.tape (came result items.new.n) items.new.tape }
 {
     expect(words, at + 1, kinds::VAL)?;
-    let m = emit(tape, n, LET, 0);
-    let (x, q) = vals(words, tape, at + 1, m)?;
+    items.emit(LET, 0);
+    let x = vals(words, items, at + 1)?;
     let y = expect(words, x, kinds::IN)?;
-    written(words, tape, y, q)
+    written(words, items, y)
 }
 
 // The assignments of a `let` whose `val`s are on the tape, and `end`.
-fn written(words: &Table, tape: &mut Tape, at: usize, n: usize) -> Out
-    requires { Room words.now at n }
-    ensures { IsWritten words.now at n tape.old result tape.new }
+fn written(words: &Table, items: &mut Items, at: usize) -> Result<usize, Misfit>
+    requires { Room words.now at items.old.n }
+    ensures { IsWritten words.now at items.old.n items.old.tape (came result items.new.n) items.new.tape }
 {
     expect(words, at, kinds::NAME)?;
-    let (x, m) = assignments(words, tape, at, n)?;
+    let x = assignments(words, items, at)?;
     let y = expect(words, x, kinds::END)?;
-    Ok((y, emit(tape, m, END, 0)))
+    items.emit(END, 0);
+    Ok(y)
 }
 
-fn statements(words: &Table, tape: &mut Tape, at: usize, n: usize) -> Out
-    requires { Room words.now at n }
-    ensures { IsStatements words.now at n tape.old result tape.new }
+fn statements(words: &Table, items: &mut Items, at: usize) -> Result<usize, Misfit>
+    requires { Room words.now at items.old.n }
+    ensures { IsStatements words.now at items.old.n items.old.tape (came result items.new.n) items.new.tape }
 {
-    let (mut x, mut m) = (at, n);
+    let mut x = at;
     loop {
-        (x, m) = match kind(words, x) {
-            kinds::NAME => assignment(words, tape, x, m)?,
-            kinds::LET => scoped(words, tape, x, m)?,
-            _ => return Ok((x, m)),
+        x = match kind(words, x) {
+            kinds::NAME => assignment(words, items, x)?,
+            kinds::LET => scoped(words, items, x)?,
+            _ => return Ok(x),
         };
     }
 }
 
 // A rule: its name, its entries in parentheses, its body in braces.
-fn rule(words: &Table, tape: &mut Tape, at: usize, n: usize) -> Out
-    requires { Starts words.now at n name_kind }
-    ensures { IsRule words.now at n tape.old result tape.new }
+fn rule(words: &Table, items: &mut Items, at: usize) -> Result<usize, Misfit>
+    requires { Starts words.now at items.old.n name_kind }
+    ensures { IsRule words.now at items.old.n items.old.tape (came result items.new.n) items.new.tape }
 {
     let x = expect(words, at + 1, kinds::OPEN)?;
-    let m = put(words, tape, at, n, RULE, 0);
-    let (y, o) = entries(words, tape, x, m)?;
+    items.put(words, at, RULE, 0);
+    let y = entries(words, items, x)?;
     let z = expect(words, y, kinds::CLOSE)?;
     let first = expect(words, z, kinds::BRACE)?;
-    body(words, tape, first, o)
+    body(words, items, first)
 }
 
 // The statements of a rule whose entries are on the tape, and `}`.
-fn body(words: &Table, tape: &mut Tape, at: usize, n: usize) -> Out
-    requires { Room words.now at n }
-    ensures { IsBody words.now at n tape.old result tape.new }
+fn body(words: &Table, items: &mut Items, at: usize) -> Result<usize, Misfit>
+    requires { Room words.now at items.old.n }
+    ensures { IsBody words.now at items.old.n items.old.tape (came result items.new.n) items.new.tape }
 {
-    let (x, m) = statements(words, tape, at, n)?;
+    let x = statements(words, items, at)?;
     let y = expect(words, x, kinds::UNBRACE)?;
-    Ok((y, emit(tape, m, RULED, 0)))
+    items.emit(RULED, 0);
+    Ok(y)
 }
 
-fn rules(words: &Table, tape: &mut Tape, at: usize, n: usize) -> Out
-    requires { Room words.now at n }
-    ensures { IsRules words.now at n tape.old result tape.new }
+fn rules(words: &Table, items: &mut Items, at: usize) -> Result<usize, Misfit>
+    requires { Room words.now at items.old.n }
+    ensures { IsRules words.now at items.old.n items.old.tape (came result items.new.n) items.new.tape }
 {
-    let (mut x, mut m) = (at, n);
+    let mut x = at;
     while kind(words, x) == kinds::NAME {
-        (x, m) = rule(words, tape, x, m)?;
+        x = rule(words, items, x)?;
     }
-    Ok((x, m))
+    Ok(x)
 }
 
 // A group: `or` and its rules in parentheses.
-fn group(words: &Table, tape: &mut Tape, at: usize, n: usize) -> Out
-    requires { Starts words.now at n or_kind }
-    ensures { IsGroup words.now at n tape.old result tape.new }
+fn group(words: &Table, items: &mut Items, at: usize) -> Result<usize, Misfit>
+    requires { Starts words.now at items.old.n or_kind }
+    ensures { IsGroup words.now at items.old.n items.old.tape (came result items.new.n) items.new.tape }
 {
     let x = expect(words, at + 1, kinds::OPEN)?;
     expect(words, x, kinds::NAME)?;
-    let m = put(words, tape, at, n, OR, 0);
-    let (y, o) = rules(words, tape, x, m)?;
+    items.put(words, at, OR, 0);
+    let y = rules(words, items, x)?;
     let z = expect(words, y, kinds::CLOSE)?;
-    Ok((z, emit(tape, o, GROUPED, 0)))
+    items.emit(GROUPED, 0);
+    Ok(z)
 }
 
-fn groups(words: &Table, tape: &mut Tape, at: usize, n: usize) -> Out
-    requires { Room words.now at n }
-    ensures { IsGroups words.now at n tape.old result tape.new }
+fn groups(words: &Table, items: &mut Items, at: usize) -> Result<usize, Misfit>
+    requires { Room words.now at items.old.n }
+    ensures { IsGroups words.now at items.old.n items.old.tape (came result items.new.n) items.new.tape }
 {
-    let (mut x, mut m) = (at, n);
+    let mut x = at;
     while kind(words, x) == kinds::OR {
-        (x, m) = group(words, tape, x, m)?;
+        x = group(words, items, x)?;
     }
-    Ok((x, m))
+    Ok(x)
 }
 
 // One group, or an `and` of groups.
-pub fn constraint(words: &Table, tape: &mut Tape, at: usize, n: usize) -> Out
-    requires { Room words.now at n }
-    ensures { IsConstraint words.now at n tape.old result tape.new }
+pub fn constraint(words: &Table, items: &mut Items, at: usize) -> Result<usize, Misfit>
+    requires { Room words.now at items.old.n }
+    ensures { IsConstraint words.now at items.old.n items.old.tape (came result items.new.n) items.new.tape }
 {
     match kind(words, at) {
-        kinds::AND => conjunction(words, tape, at, n),
-        kinds::OR => group(words, tape, at, n),
+        kinds::AND => conjunction(words, items, at),
+        kinds::OR => group(words, items, at),
         _ => Err(Misfit { at }),
     }
 }
 
 // `and` and its groups in parentheses.
-fn conjunction(words: &Table, tape: &mut Tape, at: usize, n: usize) -> Out
-    requires { Starts words.now at n and_kind }
-    ensures { IsConstraint words.now at n tape.old result tape.new }
+fn conjunction(words: &Table, items: &mut Items, at: usize) -> Result<usize, Misfit>
+    requires { Starts words.now at items.old.n and_kind }
+    ensures { IsConstraint words.now at items.old.n items.old.tape (came result items.new.n) items.new.tape }
 {
     let x = expect(words, at + 1, kinds::OPEN)?;
     expect(words, x, kinds::OR)?;
-    let (y, m) = groups(words, tape, x, n)?;
+    let y = groups(words, items, x)?;
     let z = expect(words, y, kinds::CLOSE)?;
-    Ok((z, m))
+    Ok(z)
 }

@@ -2,65 +2,68 @@
 ghost use Rattle.std.specs.Prelude.{◌≡◌, true};
 ghost use Rattle.signs.specs.Kinds.{name_kind};
 ghost use Rattle.readers.specs.Marks.{is_memory, value_at};
-ghost use Rattle.readers.specs.Meets.{Room, Starts};
+ghost use Rattle.readers.specs.Meets.{Room, Starts, came};
 ghost use Rattle.rule_reader.specs.States.{IsAssignment, IsBinding, IsVal};
 
 use expression_reader::expr;
-use readers::{Out, Table, Tape, expect, kind, memory, put};
+use readers::{Items, Misfit, Table, expect, kind, memory};
 use signs::kinds;
 use tape::{ASSIGN, VAL, WRITE};
 use type_reader::typ;
 
 // A name and what is written to it, with an address where it is a memory.
-pub fn assignment(words: &Table, tape: &mut Tape, at: usize, n: usize) -> Out
-    requires { Starts words.now at n name_kind }
-    ensures { IsAssignment words.now at n tape.old result tape.new }
+pub fn assignment(words: &Table, items: &mut Items, at: usize) -> Result<usize, Misfit>
+    requires { Starts words.now at items.old.n name_kind }
+    ensures { IsAssignment words.now at items.old.n items.old.tape (came result items.new.n) items.new.tape }
 {
     if memory(words, at) {
-        return write(words, tape, at, n);
+        return write(words, items, at);
     }
     let x = expect(words, at + 1, kinds::EQUALS)?;
-    let (y, m) = expr(words, tape, x, n, false)?;
+    let y = expr(words, items, x, false)?;
     let z = expect(words, y, kinds::SEMICOLON)?;
-    Ok((z, put(words, tape, at, m, ASSIGN, 0)))
+    items.put(words, at, ASSIGN, 0);
+    Ok(z)
 }
 
 // A memory, its address, and what is written there.
-fn write(words: &Table, tape: &mut Tape, at: usize, n: usize) -> Out
-    requires starts { Starts words.now at n name_kind }
+fn write(words: &Table, items: &mut Items, at: usize) -> Result<usize, Misfit>
+    requires starts { Starts words.now at items.old.n name_kind }
     requires at_value { is_memory (value_at words.now at) ≡ true }
-    ensures { IsAssignment words.now at n tape.old result tape.new }
+    ensures { IsAssignment words.now at items.old.n items.old.tape (came result items.new.n) items.new.tape }
 {
     let x = expect(words, at + 1, kinds::BRACKET)?;
-    let (y, m) = expr(words, tape, x, n, false)?;
+    let y = expr(words, items, x, false)?;
     let z = expect(words, y, kinds::UNBRACKET)?;
     let value = expect(words, z, kinds::EQUALS)?;
-    let (past, q) = expr(words, tape, value, m, false)?;
+    let past = expr(words, items, value, false)?;
     let end = expect(words, past, kinds::SEMICOLON)?;
-    Ok((end, put(words, tape, at, q, WRITE, 0)))
+    items.put(words, at, WRITE, 0);
+    Ok(end)
 }
 
 // What follows `val`: a type or none, a name, its value.
-pub fn val(words: &Table, tape: &mut Tape, at: usize, n: usize) -> Out
-    requires { Room words.now at n }
-    ensures { IsVal words.now at n tape.old result tape.new }
+pub fn val(words: &Table, items: &mut Items, at: usize) -> Result<usize, Misfit>
+    requires { Room words.now at items.old.n }
+    ensures { IsVal words.now at items.old.n items.old.tape (came result items.new.n) items.new.tape }
 {
     if kind(words, at) != kinds::LESS {
-        return binding(words, tape, at, n, 0);
+        return binding(words, items, at, 0);
     }
-    let (x, m) = typ(words, tape, at + 1, n)?;
+    let x = typ(words, items, at + 1)?;
     let y = expect(words, x, kinds::GREATER)?;
-    binding(words, tape, y, m, 1)
+    binding(words, items, y, 1)
 }
 
 // A name and its value, after a type that is on the tape or none.
-fn binding(words: &Table, tape: &mut Tape, at: usize, n: usize, typed: u32) -> Out
-    requires { Room words.now at n }
-    ensures { IsBinding words.now at n tape.old result tape.new typed }
+fn binding(words: &Table, items: &mut Items, at: usize, typed: u32) -> Result<usize, Misfit>
+    requires { Room words.now at items.old.n }
+    ensures { IsBinding words.now at items.old.n items.old.tape (came result items.new.n) items.new.tape typed }
 {
     let x = expect(words, at, kinds::NAME)?;
     let y = expect(words, x, kinds::EQUALS)?;
-    let (z, m) = expr(words, tape, y, n, false)?;
+    let z = expr(words, items, y, false)?;
     let end = expect(words, z, kinds::SEMICOLON)?;
-    Ok((end, put(words, tape, at, m, VAL, typed)))
+    items.put(words, at, VAL, typed);
+    Ok(end)
 }

@@ -2,14 +2,14 @@
 ghost use Rattle.std.specs.Prelude.{◌≡◌, ◌≤◌};
 ghost use Rattle.tape.specs.Tape.{most_items};
 ghost use Rattle.readers.specs.Marks.{count};
-ghost use Rattle.readers.specs.Meets.{Room};
+ghost use Rattle.readers.specs.Meets.{Room, came};
 ghost use Rattle.name_marks.specs.Marking.{Taped};
 ghost use Rattle.syntax.specs.Read.{Filed, IsEnding, IsParsed, IsTree, Listed, Ready, Roomy, place_or, refusal, said_of, tape_after, words_after, words_said};
 
 use head_reader::head;
 use language::{Refusal, Text};
 use name_marks::mark;
-use readers::{COUNT, Misfit, Out, Table, Tape, expect, place};
+use readers::{COUNT, Items, Misfit, Table, Tape, expect, place};
 use rule_reader::constraint;
 use signs::kinds;
 use tape::LENGTH;
@@ -17,27 +17,28 @@ use tape::LENGTH;
 const BYTES: usize = language::Actor::BYTES as usize;
 
 // The groups after the head, a brace, and the end of the words.
-fn ending(words: &Table, tape: &mut Tape, at: usize, n: usize) -> Out
-    requires { Room words.now at n }
-    ensures { IsEnding words.now at n tape.old result tape.new }
+fn ending(words: &Table, items: &mut Items, at: usize) -> Result<usize, Misfit>
+    requires { Room words.now at items.old.n }
+    ensures { IsEnding words.now at items.old.n items.old.tape (came result items.new.n) items.new.tape }
 {
-    let (x, m) = constraint(words, tape, at, n)?;
+    let x = constraint(words, items, at)?;
     let end = expect(words, x, kinds::UNBRACE)?;
     if end != words[COUNT] as usize {
         return Err(Misfit { at: end });
     }
-    Ok((end, m))
+    Ok(end)
 }
 
 // The whole actor: which names are memories is known after its head.
-fn tree(text: &[u8], words: &mut Table, tape: &mut Tape) -> Out
+fn tree(text: &[u8], words: &mut Table, items: &mut Items) -> Result<usize, Misfit>
     requires ready { Ready text.now words.old }
-    requires taped { Taped tape.old 0 }
-    ensures { IsTree text.now words.old tape.old result words.new tape.new }
+    requires none { items.old.n ≡ 0 }
+    requires taped { Taped items.old.tape 0 }
+    ensures { IsTree text.now words.old items.old.tape (came result items.new.n) words.new items.new.tape }
 {
-    let (x, m) = head(words, tape, 0, 0)?;
-    mark(text, words, tape, m);
-    ending(words, tape, x, m)
+    let x = head(words, items, 0)?;
+    mark(text, words, items);
+    ending(words, items, x)
 }
 
 // The place of a word, or the end of the text where there is none.
@@ -68,12 +69,16 @@ fn parsed(text: &[u8], words: &mut Table, tape: &mut Tape) -> Result<u32, Refusa
     requires { Filed text.now words.old }
     ensures { IsParsed text.now words.old tape.old result tape.new }
 {
-    let mut scratch = [0u32; LENGTH];
-    mark(text, words, &scratch, 0);
-    match tree(text, words, &mut scratch) {
-        Ok((_, m)) => {
-            tape[..m].copy_from_slice(&scratch[..m]);
-            Ok(m as u32)
+    let mut items = Items {
+        tape: [0; LENGTH],
+        n: 0,
+    };
+    mark(text, words, &items);
+    match tree(text, words, &mut items) {
+        Ok(_) => {
+            let n = items.n;
+            tape[..n].copy_from_slice(&items.tape[..n]);
+            Ok(n as u32)
         }
         Err(e) => {
             let place = place_or(words, e.at, text.len() as u32);

@@ -1,6 +1,6 @@
 // Types, and what else of an expression holds no expression: constants and bit positions.
-// What comes in: the words, the tape, the index of the first word and the length of the tape. What goes out: the items of
-// what was read, after those that are on the tape, or the first word that does not fit.
+// What comes in: the words, the items on the tape, the index of the first word. What goes out: the items of what was read,
+// after those that are on the tape, and the index of the next word, or the first word that does not fit.
 #![tactic(auto)]
 
 mod constants;
@@ -8,126 +8,132 @@ mod constants;
 ghost use Rattle.std.specs.Prelude.{◌+◌, ◌-◌, ◌≤◌};
 ghost use Rattle.tape.specs.Tape.{LOG, FLOOR};
 ghost use Rattle.signs.specs.Kinds.{log_kind, max_kind, name_kind, number_kind, open_kind};
-ghost use Rattle.readers.specs.Meets.{Room, Starts};
+ghost use Rattle.readers.specs.Meets.{Room, Starts, came};
 ghost use Rattle.type_reader.specs.Types.{IsType, IsTerm, IsSums, IsEntries};
 
 pub use constants::{constant, part, typed};
-use readers::{Misfit, Out, Table, Tape, emit, expect, kind, put, sum, the_type, value};
+use readers::{Items, Misfit, Table, expect, kind, sum, the_type, value};
 use signs::kinds;
 use tape::{CEIL, ENTRY, ENVIRONMENT, FLOOR, LOG, MOST, NUMBER, PORT, WITHIN};
 
 #[cycle(types)]
-pub fn typ(words: &Table, tape: &mut Tape, at: usize, n: usize) -> Out
-    requires { Room words.now at n }
-    ensures { IsType words.now at n tape.old result tape.new }
+pub fn typ(words: &Table, items: &mut Items, at: usize) -> Result<usize, Misfit>
+    requires { Room words.now at items.old.n }
+    ensures { IsType words.now at items.old.n items.old.tape (came result items.new.n) items.new.tape }
 {
-    let (x, m) = term(words, tape, at, n)?;
-    sums(words, tape, x, m)
+    let x = term(words, items, at)?;
+    sums(words, items, x)
 }
 
 // What follows a term that is on the tape.
 #[cycle(types)]
-fn sums(words: &Table, tape: &mut Tape, at: usize, n: usize) -> Out
-    requires { Room words.now at n }
-    ensures { IsSums words.now at n tape.old result tape.new }
+fn sums(words: &Table, items: &mut Items, at: usize) -> Result<usize, Misfit>
+    requires { Room words.now at items.old.n }
+    ensures { IsSums words.now at items.old.n items.old.tape (came result items.new.n) items.new.tape }
 {
-    let (mut x, mut m) = (at, n);
+    let mut x = at;
     loop {
         let op = sum(kind(words, x));
         if op == 0 {
-            return Ok((x, m));
+            return Ok(x);
         }
-        (x, m) = term(words, tape, x + 1, m)?;
-        m = emit(tape, m, op, 0);
+        x = term(words, items, x + 1)?;
+        items.emit(op, 0);
     }
 }
 
 #[cycle(types)]
-fn term(words: &Table, tape: &mut Tape, at: usize, n: usize) -> Out
-    requires { Room words.now at n }
-    ensures { IsTerm words.now at n tape.old result tape.new }
+fn term(words: &Table, items: &mut Items, at: usize) -> Result<usize, Misfit>
+    requires { Room words.now at items.old.n }
+    ensures { IsTerm words.now at items.old.n items.old.tape (came result items.new.n) items.new.tape }
 {
     match kind(words, at) {
-        kinds::NUMBER => number(words, tape, at, n),
-        kinds::NAME => environment(words, tape, at, n),
-        kinds::MAX => most(words, tape, at, n),
-        kinds::LOG => function(words, tape, at, n, LOG),
-        kinds::CEIL => function(words, tape, at, n, CEIL),
-        kinds::FLOOR => function(words, tape, at, n, FLOOR),
-        kinds::OPEN => within(words, tape, at, n),
+        kinds::NUMBER => number(words, items, at),
+        kinds::NAME => environment(words, items, at),
+        kinds::MAX => most(words, items, at),
+        kinds::LOG => function(words, items, at, LOG),
+        kinds::CEIL => function(words, items, at, CEIL),
+        kinds::FLOOR => function(words, items, at, FLOOR),
+        kinds::OPEN => within(words, items, at),
         _ => Err(Misfit { at }),
     }
 }
 
-fn number(words: &Table, tape: &mut Tape, at: usize, n: usize) -> Out
-    requires { Starts words.now at n number_kind }
-    ensures { IsTerm words.now at n tape.old result tape.new }
+fn number(words: &Table, items: &mut Items, at: usize) -> Result<usize, Misfit>
+    requires { Starts words.now at items.old.n number_kind }
+    ensures { IsTerm words.now at items.old.n items.old.tape (came result items.new.n) items.new.tape }
 {
-    Ok((at + 1, put(words, tape, at, n, NUMBER, value(words, at))))
+    items.put(words, at, NUMBER, value(words, at));
+    Ok(at + 1)
 }
 
 // An environment name, or a port's with `.type` after it.
-fn environment(words: &Table, tape: &mut Tape, at: usize, n: usize) -> Out
-    requires { Starts words.now at n name_kind }
-    ensures { IsTerm words.now at n tape.old result tape.new }
+fn environment(words: &Table, items: &mut Items, at: usize) -> Result<usize, Misfit>
+    requires { Starts words.now at items.old.n name_kind }
+    ensures { IsTerm words.now at items.old.n items.old.tape (came result items.new.n) items.new.tape }
 {
     if kind(words, at + 1) != kinds::DOT {
-        return Ok((at + 1, put(words, tape, at, n, ENVIRONMENT, 0)));
+        items.put(words, at, ENVIRONMENT, 0);
+        return Ok(at + 1);
     }
     if !the_type(words, at + 2) {
         return Err(Misfit { at: at + 2 });
     }
-    Ok((at + 3, put(words, tape, at, n, PORT, 0)))
+    items.put(words, at, PORT, 0);
+    Ok(at + 3)
 }
 
 // `log`, `ceil` or `floor` of a type.
 #[cycle(types)]
-fn function(words: &Table, tape: &mut Tape, at: usize, n: usize, op: u32) -> Out
-    requires starts { Starts words.now at n (op + (log_kind - LOG)) }
+fn function(words: &Table, items: &mut Items, at: usize, op: u32) -> Result<usize, Misfit>
+    requires starts { Starts words.now at items.old.n (op + (log_kind - LOG)) }
     requires le_op { LOG ≤ op }
     requires op_bound { op ≤ FLOOR }
-    ensures { IsTerm words.now at n tape.old result tape.new }
+    ensures { IsTerm words.now at items.old.n items.old.tape (came result items.new.n) items.new.tape }
 {
     let x = expect(words, at + 1, kinds::OPEN)?;
-    let (y, m) = typ(words, tape, x, n)?;
+    let y = typ(words, items, x)?;
     let z = expect(words, y, kinds::CLOSE)?;
-    Ok((z, put(words, tape, at, m, op, 0)))
+    items.put(words, at, op, 0);
+    Ok(z)
 }
 
 // `max` of its entries.
 #[cycle(types)]
-fn most(words: &Table, tape: &mut Tape, at: usize, n: usize) -> Out
-    requires { Starts words.now at n max_kind }
-    ensures { IsTerm words.now at n tape.old result tape.new }
+fn most(words: &Table, items: &mut Items, at: usize) -> Result<usize, Misfit>
+    requires { Starts words.now at items.old.n max_kind }
+    ensures { IsTerm words.now at items.old.n items.old.tape (came result items.new.n) items.new.tape }
 {
     let x = expect(words, at + 1, kinds::OPEN)?;
-    let (y, m) = typ(words, tape, x, n)?;
-    let (z, q) = entries(words, tape, y, m)?;
+    let y = typ(words, items, x)?;
+    let z = entries(words, items, y)?;
     let end = expect(words, z, kinds::CLOSE)?;
-    Ok((end, put(words, tape, at, q, MOST, 0)))
+    items.put(words, at, MOST, 0);
+    Ok(end)
 }
 
 // What follows an entry that is on the tape.
 #[cycle(types)]
-fn entries(words: &Table, tape: &mut Tape, at: usize, n: usize) -> Out
-    requires { Room words.now at n }
-    ensures { IsEntries words.now at n tape.old result tape.new }
+fn entries(words: &Table, items: &mut Items, at: usize) -> Result<usize, Misfit>
+    requires { Room words.now at items.old.n }
+    ensures { IsEntries words.now at items.old.n items.old.tape (came result items.new.n) items.new.tape }
 {
-    let (mut x, mut m) = (at, n);
+    let mut x = at;
     while kind(words, x) == kinds::COMMA {
-        (x, m) = typ(words, tape, x + 1, m)?;
-        m = emit(tape, m, ENTRY, 0);
+        x = typ(words, items, x + 1)?;
+        items.emit(ENTRY, 0);
     }
-    Ok((x, m))
+    Ok(x)
 }
 
 // A type in parentheses.
 #[cycle(types)]
-fn within(words: &Table, tape: &mut Tape, at: usize, n: usize) -> Out
-    requires { Starts words.now at n open_kind }
-    ensures { IsTerm words.now at n tape.old result tape.new }
+fn within(words: &Table, items: &mut Items, at: usize) -> Result<usize, Misfit>
+    requires { Starts words.now at items.old.n open_kind }
+    ensures { IsTerm words.now at items.old.n items.old.tape (came result items.new.n) items.new.tape }
 {
-    let (x, m) = typ(words, tape, at + 1, n)?;
+    let x = typ(words, items, at + 1)?;
     let y = expect(words, x, kinds::CLOSE)?;
-    Ok((y, put(words, tape, at, m, WITHIN, 0)))
+    items.put(words, at, WITHIN, 0);
+    Ok(y)
 }

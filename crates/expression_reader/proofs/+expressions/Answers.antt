@@ -38,41 +38,41 @@ binary-returns t c = record {
 pub choices-returns-in_err-x : goal.choices-returns-in_err-x
 choices-returns-in_err-x t c = rw (same_err c.from_residual.ensures.1) (record {
   moved = record { to = c.in_err-x.ensures.moved.to };
-  agrees = λ M f h e on. c.loop-tape.invariant.goes M _ _ _ _ (λ a on f h. rw (suc_of f (omega (arith, c.loop-tape.invariant.went))) (rw (cond_more M (f - 1) _ _ a (sym c.kind.ensures.is ∙ c.loop-tape-test.true))
-      (until_err M s_colon _ _ (c.in_err-x.ensures.agrees M (f - 1) (omega (arith, c.loop-tape.invariant.went)))))) e on f h;
+  agrees = λ M f h e on. c.loop-items.invariant.goes M _ _ _ _ (λ a on f h. rw (suc_of f (omega (arith, c.loop-items.invariant.went))) (rw (cond_more M (f - 1) _ _ a (sym c.kind.ensures.is ∙ c.loop-items-test.true))
+      (until_err M s_colon _ _ (c.in_err-x.ensures.agrees M (f - 1) (omega (arith, c.loop-items.invariant.went)))))) e on f h;
 })
 
 pub choices-returns-in_err-x-2 : goal.choices-returns-in_err-x-2
 choices-returns-in_err-x-2 t c = rw (same_err c.from_residual-in_err-x-2.ensures.1) (record {
   moved = omega (arith, c.in_ok-x.ensures.moved.to, c.in_err-x-2.ensures);
-  agrees = λ M f h e on. c.loop-tape.invariant.goes M _ _ _ _ (λ a on f h. rw (suc_of f (omega (arith, c.loop-tape.invariant.went))) (rw (cond_more M (f - 1) _ _ a (sym c.kind.ensures.is ∙ c.loop-tape-test.true))
-      (until_missed M s_colon _ _ (c.in_ok-x.ensures.agrees M (f - 1) (omega (arith, c.loop-tape.invariant.went))) c.in_err-x-2.ensures))) e on f h;
+  agrees = λ M f h e on. c.loop-items.invariant.goes M _ _ _ _ (λ a on f h. rw (suc_of f (omega (arith, c.loop-items.invariant.went))) (rw (cond_more M (f - 1) _ _ a (sym c.kind.ensures.is ∙ c.loop-items-test.true))
+      (until_missed M s_colon _ _ (c.in_ok-x.ensures.agrees M (f - 1) (omega (arith, c.loop-items.invariant.went))) c.in_err-x-2.ensures))) e on f h;
 })
 
 pub choices-returns-in_err-x-3 : goal.choices-returns-in_err-x-3
 choices-returns-in_err-x-3 t c = rw (same_err c.from_residual-in_err-x-3.ensures.1) (record {
   moved = record { to = c.in_err-x-3.ensures.moved.to };
-  agrees = λ M f h e on. c.loop-tape.invariant.goes M _ _ _ _ (λ a on f h. rw (suc_of f (omega (arith, c.loop-tape.invariant.went))) (rw (cond_more M (f - 1) _ _ a (sym c.kind.ensures.is ∙ c.loop-tape-test.true))
-      (until_ok M s_colon _ _ (c.in_ok-x.ensures.agrees M (f - 1) (omega (arith, c.loop-tape.invariant.went))) c.in_ok-x-2.ensures (λ d p on₁.
-      bind_err _ _ (c.in_err-x-3.ensures.agrees M (f - 1) (omega (arith, c.loop-tape.invariant.went, c.in_ok-x.ensures.moved.to, c.in_ok-x-2.ensures))))))) e on f h;
+  agrees = λ M f h e on. c.loop-items.invariant.goes M _ _ _ _ (λ a on f h. rw (suc_of f (omega (arith, c.loop-items.invariant.went))) (rw (cond_more M (f - 1) _ _ a (sym c.kind.ensures.is ∙ c.loop-items-test.true))
+      (until_ok M s_colon _ _ (c.in_ok-x.ensures.agrees M (f - 1) (omega (arith, c.loop-items.invariant.went))) c.in_ok-x-2.ensures (λ d p on₁.
+      bind_err _ _ (c.in_err-x-3.ensures.agrees M (f - 1) (omega (arith, c.loop-items.invariant.went, c.in_ok-x.ensures.moved.to, c.in_ok-x-2.ensures))))))) e on f h;
 })
 
 pub choices-binary-requires : goal.choices-binary-requires
 choices-binary-requires t c = let i = found_at (omega arith) c.in_ok-x-2.ensures in (omega (arith, c.requires, c.in_ok-x.ensures.moved.to, c.in_ok-x-2.ensures), (omega (arith, c.requires, c.in_ok-x.ensures.moved.to, c.in_ok-x-2.ensures), omega arith))
 
-pub choices-loop-tape-preserved : goal.choices-loop-tape-preserved
+pub choices-loop-items-preserved : goal.choices-loop-items-preserved
 unfolding flat
-choices-loop-tape-preserved t c = let w = c.in_ok-x.ensures.moved.to in let u = c.in_ok-x-3.ensures.moved.to in record {
-  went = omega (arith, c.loop-tape.invariant.went, c.in_ok-x-2.ensures);
-  goes = λ M s b r t' k. c.loop-tape.invariant.goes M s b r t' (λ a on f h. rw (suc_of f (omega (arith, c.loop-tape.invariant.went))) (rw (cond_more M (f - 1) _ _ a (sym c.kind.ensures.is ∙ c.loop-tape-test.true))
-      (until_ok M s_colon _ _ (c.in_ok-x.ensures.agrees M (f - 1) (omega (arith, c.loop-tape.invariant.went))) c.in_ok-x-2.ensures (λ d p on₁.
-      bind_ok _ _ (c.in_ok-x-3.ensures.agrees M (f - 1) (omega (arith, c.loop-tape.invariant.went, c.in_ok-x.ensures.moved.to, c.in_ok-x-2.ensures))) (λ e on₂. k (choice a d e) (on_more (on_more (on_more on on₁) on₂) c.emit-m.ensures) (f - 1) (omega (arith, c.in_ok-x-2.ensures)))))));
+choices-loop-items-preserved t c = let w = c.in_ok-x.ensures.moved.to in let u = c.in_ok-x-3.ensures.moved.to in record {
+  went = omega (arith, c.loop-items.invariant.went, c.in_ok-x-2.ensures);
+  goes = λ M s b r t' k. c.loop-items.invariant.goes M s b r t' (λ a on f h. rw (suc_of f (omega (arith, c.loop-items.invariant.went))) (rw (cond_more M (f - 1) _ _ a (sym c.kind.ensures.is ∙ c.loop-items-test.true))
+      (until_ok M s_colon _ _ (c.in_ok-x.ensures.agrees M (f - 1) (omega (arith, c.loop-items.invariant.went))) c.in_ok-x-2.ensures (λ d p on₁.
+      bind_ok _ _ (c.in_ok-x-3.ensures.agrees M (f - 1) (omega (arith, c.loop-items.invariant.went, c.in_ok-x.ensures.moved.to, c.in_ok-x-2.ensures))) (λ e on₂. k (choice a d e) (on_more (on_more (on_more on on₁) on₂) c.emit.ensures) (f - 1) (omega (arith, c.in_ok-x-2.ensures)))))));
 }
 
 pub choices-returns : goal.choices-returns
 choices-returns t c = record {
-  moved = record { to = c.loop-tape.invariant.went };
-  agrees = λ M f h e on. c.loop-tape.invariant.goes M _ _ _ _ (λ a on f h. rw (suc_of f (omega (arith, c.loop-tape.invariant.went))) (rw (cond_stop M (f - 1) _ _ a (λ q. c.loop-tape-test.false (c.kind.ensures.is ∙ q))) (read on))) e on f h;
+  moved = record { to = c.loop-items.invariant.went };
+  agrees = λ M f h e on. c.loop-items.invariant.goes M _ _ _ _ (λ a on f h. rw (suc_of f (omega (arith, c.loop-items.invariant.went))) (rw (cond_stop M (f - 1) _ _ a (λ q. c.loop-items-test.false (c.kind.ensures.is ∙ q))) (read on))) e on f h;
 }
 
 pub default-expr-requires : goal.default-expr-requires
@@ -197,15 +197,15 @@ inside-returns-in_err-y t c = rw (same_err c.from_residual-in_err-y.ensures.1) (
 })
 
 pub inside-part-requires : goal.inside-part-requires
-inside-part-requires t c = omega (arith, c.requires, c.in_ok-x.ensures.moved.to, c.in_ok-y.ensures, found_at (omega arith) c.in_ok-y.ensures, c.put-q.ensures)
+inside-part-requires t c = omega (arith, c.requires, c.in_ok-x.ensures.moved.to, c.in_ok-y.ensures, found_at (omega arith) c.in_ok-y.ensures, c.put.ensures)
 
 pub inside-returns : goal.inside-returns
 unfolding flat
 inside-returns t c = record {
-  moved = moved_more (omega (arith, c.requires, c.in_ok-x.ensures.moved.to, c.in_ok-y.ensures, found_at (omega arith) c.in_ok-y.ensures, c.put-q.ensures)) c.part.ensures.moved;
+  moved = moved_more (omega (arith, c.requires, c.in_ok-x.ensures.moved.to, c.in_ok-y.ensures, found_at (omega arith) c.in_ok-y.ensures, c.put.ensures)) c.part.ensures.moved;
   agrees = λ M f h. rw (suc_of f (omega (arith, c.requires))) (rw (operand_inside M (f - 1) _ c.requires.kind)
       (until_ok M s_close _ _ (c.in_ok-x.ensures.agrees M (f - 1) (omega (arith, c.requires))) c.in_ok-y.ensures (λ a p on₁.
-      c.part.ensures.agrees M (f - 1) (omega (arith, c.requires, c.in_ok-x.ensures.moved.to, c.in_ok-y.ensures, found_at (omega arith) c.in_ok-y.ensures)) (inside _ a) (on_more on₁ c.put-q.ensures))));
+      c.part.ensures.agrees M (f - 1) (omega (arith, c.requires, c.in_ok-x.ensures.moved.to, c.in_ok-y.ensures, found_at (omega arith) c.in_ok-y.ensures)) (inside _ a) (on_more on₁ c.put.ensures))));
 }
 
 pub joined-returns-in_err-x : goal.joined-returns-in_err-x
@@ -293,9 +293,9 @@ labelled-returns t c = record {
 pub named-returns-then-not-memory : goal.named-returns-then-not-memory
 unfolding flat
 named-returns-then-not-memory t c = record {
-  moved = moved_more (omega (arith, c.requires, c.put-m.ensures)) c.part.ensures.moved;
+  moved = moved_more (omega (arith, c.requires, c.put.ensures)) c.part.ensures.moved;
   agrees = λ M f h. rw (suc_of2 f (omega (arith, c.requires)))
-      (rw (operand_read M (f - 2) _ c.requires.kind (sym c.memory.ensures ∙ c.if-not-memory.true)) (c.part.ensures.agrees M (f - 2) (omega (arith, c.requires)) _ c.put-m.ensures));
+      (rw (operand_read M (f - 2) _ c.requires.kind (sym c.memory.ensures ∙ c.if-not-memory.true)) (c.part.ensures.agrees M (f - 2) (omega (arith, c.requires)) _ c.put.ensures));
 }
 
 pub named-expr-requires : goal.named-expr-requires
@@ -327,11 +327,11 @@ named-returns-in_err-z t c = rw (same_err c.from_residual-in_err-z.ensures.1) (r
 pub named-returns : goal.named-returns
 unfolding flat
 named-returns t c = record {
-  moved = omega (arith, c.requires, c.in_ok-x.ensures, found_at (omega arith) c.in_ok-x.ensures, c.in_ok-y.ensures.moved.to, c.in_ok-z.ensures, found_at (omega arith) c.in_ok-z.ensures, c.put.ensures);
+  moved = omega (arith, c.requires, c.in_ok-x.ensures, found_at (omega arith) c.in_ok-x.ensures, c.in_ok-y.ensures.moved.to, c.in_ok-z.ensures, found_at (omega arith) c.in_ok-z.ensures, c.put-2.ensures);
   agrees = λ M f h. rw (suc_of2 f (omega (arith, c.requires))) (rw (operand_cell M (f - 2) _ c.requires.kind (sym c.memory.ensures ∙ c.if-not-memory.false))
       (rw (expect_found M s_bracket _ c.in_ok-x.ensures)
       (until_ok M s_unbracket _ _ (c.in_ok-y.ensures.agrees M (f - 2) (omega (arith, c.requires, c.in_ok-x.ensures, found_at (omega arith) c.in_ok-x.ensures))) c.in_ok-z.ensures (λ a p on₁.
-      read (on_more on₁ c.put.ensures)))));
+      read (on_more on₁ c.put-2.ensures)))));
 }
 
 pub number-returns-in_err-x : goal.number-returns-in_err-x
@@ -405,28 +405,28 @@ operators-loop-at-preserved t c = let i = operator_inside _ _ _ _ _ c.kind-k.ens
       (let z = operator_of _ _ _ (level_below _ _ _ c.level-l.ensures.is c.if-l-below.false) c.requires.below_le_loosest in
       rw (bin_more M (f - 1) _ _ a _ _ _ c.kind-k.ensures.is i (sym (c.arm_ends.ensures.is M) ∙ c.if-arm_ends.false) z c.level-l.ensures.is)
       (bind_ok _ _ (c.in_ok-x.ensures.agrees M (f - 1) (omega (arith, c.loop-at.invariant.went))) (λ e on₁. k (binary z.operator.which a e)
-      (on_more (on_more on on₁) (on_value (sym z.number) c.binary_item-m.ensures)) (f - 1) (omega arith)))));
+      (on_more (on_more on on₁) (on_value (sym z.number) c.binary_item.ensures)) (f - 1) (omega arith)))));
 }
 
 pub parts-returns-in_err-x : goal.parts-returns-in_err-x
 parts-returns-in_err-x t c = rw (same_err c.from_residual.ensures.1) (record {
   moved = record { to = c.in_err-x.ensures.moved.to };
-  agrees = λ M f h e on. c.loop-tape.invariant.goes M _ _ _ _ (λ a on f h. rw (suc_of f (omega (arith, c.loop-tape.invariant.went))) (rw (parts_more M (f - 1) _ a (sym c.kind.ensures.is ∙ c.loop-tape-test.true))
-      (bind_err _ _ (c.in_err-x.ensures.agrees M (f - 1) (omega (arith, c.loop-tape.invariant.went)))))) e on f h;
+  agrees = λ M f h e on. c.loop-items.invariant.goes M _ _ _ _ (λ a on f h. rw (suc_of f (omega (arith, c.loop-items.invariant.went))) (rw (parts_more M (f - 1) _ a (sym c.kind.ensures.is ∙ c.loop-items-test.true))
+      (bind_err _ _ (c.in_err-x.ensures.agrees M (f - 1) (omega (arith, c.loop-items.invariant.went)))))) e on f h;
 })
 
-pub parts-loop-tape-preserved : goal.parts-loop-tape-preserved
+pub parts-loop-items-preserved : goal.parts-loop-items-preserved
 unfolding flat
-parts-loop-tape-preserved t c = let w = c.in_ok-x.ensures.moved.to in record {
-  went = omega (arith, c.loop-tape.invariant.went);
-  goes = λ M s b r t' k. c.loop-tape.invariant.goes M s b r t' (λ a on f h. rw (suc_of f (omega (arith, c.loop-tape.invariant.went))) (rw (parts_more M (f - 1) _ a (sym c.kind.ensures.is ∙ c.loop-tape-test.true))
-      (bind_ok _ _ (c.in_ok-x.ensures.agrees M (f - 1) (omega (arith, c.loop-tape.invariant.went))) (λ e on₁. k (beside a e) (on_more (on_more on on₁) c.emit-m.ensures) (f - 1) (omega arith)))));
+parts-loop-items-preserved t c = let w = c.in_ok-x.ensures.moved.to in record {
+  went = omega (arith, c.loop-items.invariant.went);
+  goes = λ M s b r t' k. c.loop-items.invariant.goes M s b r t' (λ a on f h. rw (suc_of f (omega (arith, c.loop-items.invariant.went))) (rw (parts_more M (f - 1) _ a (sym c.kind.ensures.is ∙ c.loop-items-test.true))
+      (bind_ok _ _ (c.in_ok-x.ensures.agrees M (f - 1) (omega (arith, c.loop-items.invariant.went))) (λ e on₁. k (beside a e) (on_more (on_more on on₁) c.emit.ensures) (f - 1) (omega arith)))));
 }
 
 pub parts-returns : goal.parts-returns
 parts-returns t c = record {
-  moved = record { to = c.loop-tape.invariant.went };
-  agrees = λ M f h e on. c.loop-tape.invariant.goes M _ _ _ _ (λ a on f h. rw (suc_of f (omega (arith, c.loop-tape.invariant.went))) (rw (parts_stop M (f - 1) _ a (λ q. c.loop-tape-test.false (c.kind.ensures.is ∙ q))) (read on))) e on f h;
+  moved = record { to = c.loop-items.invariant.went };
+  agrees = λ M f h e on. c.loop-items.invariant.goes M _ _ _ _ (λ a on f h. rw (suc_of f (omega (arith, c.loop-items.invariant.went))) (rw (parts_stop M (f - 1) _ a (λ q. c.loop-items-test.false (c.kind.ensures.is ∙ q))) (read on))) e on f h;
 }
 
 pub select-expr-requires : goal.select-expr-requires
@@ -478,18 +478,18 @@ pub select-expect-requires-3 : goal.select-expect-requires-3
 select-expect-requires-3 t c = omega (arith, c.requires, c.in_ok-x.ensures, found_at (omega arith) c.in_ok-x.ensures, c.in_ok-y.ensures.moved.to, c.in_ok-z.ensures, found_at (omega arith) c.in_ok-z.ensures)
 
 pub select-arms-requires : goal.select-arms-requires
-select-arms-requires t c = omega (arith, c.requires, c.in_ok-x.ensures, found_at (omega arith) c.in_ok-x.ensures, c.in_ok-y.ensures.moved.to, c.in_ok-z.ensures, found_at (omega arith) c.in_ok-z.ensures, c.in_ok-first.ensures, found_at (omega arith) c.in_ok-first.ensures, c.put-q.ensures)
+select-arms-requires t c = omega (arith, c.requires, c.in_ok-x.ensures, found_at (omega arith) c.in_ok-x.ensures, c.in_ok-y.ensures.moved.to, c.in_ok-z.ensures, found_at (omega arith) c.in_ok-z.ensures, c.in_ok-first.ensures, found_at (omega arith) c.in_ok-first.ensures, c.put.ensures)
 
 pub select-returns : goal.select-returns
 unfolding flat
 select-returns t c = record {
-  moved = omega (arith, c.requires, c.in_ok-x.ensures, found_at (omega arith) c.in_ok-x.ensures, c.in_ok-y.ensures.moved.to, c.in_ok-z.ensures, found_at (omega arith) c.in_ok-z.ensures, c.in_ok-first.ensures, found_at (omega arith) c.in_ok-first.ensures, c.in_ok-end.ensures.moved.to, c.put-q.ensures, c.put.ensures);
+  moved = omega (arith, c.requires, c.in_ok-x.ensures, found_at (omega arith) c.in_ok-x.ensures, c.in_ok-y.ensures.moved.to, c.in_ok-z.ensures, found_at (omega arith) c.in_ok-z.ensures, c.in_ok-first.ensures, found_at (omega arith) c.in_ok-first.ensures, c.in_ok-end.ensures.moved.to, c.put.ensures, c.put-2.ensures);
   agrees = λ M f h. rw (suc_of f (omega (arith, c.requires))) (rw (operand_case M (f - 1) _ c.requires.kind)
       (rw (expect_found M s_open _ c.in_ok-x.ensures)
       (until_ok M s_close _ _ (c.in_ok-y.ensures.agrees M (f - 1) (omega (arith, c.requires, c.in_ok-x.ensures, found_at (omega arith) c.in_ok-x.ensures))) c.in_ok-z.ensures (λ a p on₁.
       rw (expect_found M s_brace _ c.in_ok-first.ensures)
       (bind_ok _ _ (c.in_ok-end.ensures.agrees M (f - 1) (omega (arith, c.requires, c.in_ok-x.ensures, found_at (omega arith) c.in_ok-x.ensures, c.in_ok-y.ensures.moved.to, c.in_ok-z.ensures, found_at (omega arith) c.in_ok-z.ensures, c.in_ok-first.ensures, found_at (omega arith) c.in_ok-first.ensures))) (λ b on₂.
-      read (on_more (on_more (on_more on₁ c.put-q.ensures) on₂) c.put.ensures)))))));
+      read (on_more (on_more (on_more on₁ c.put.ensures) on₂) c.put-2.ensures)))))));
 }
 
 pub unary-returns-in_err-x : goal.unary-returns-in_err-x

@@ -55,20 +55,20 @@ decreases-select l = 8 * (count l.words.now - l.at) + 2
 abbrev pub decreases-unary : goal.decreases-unary
 decreases-unary l = 8 * (count l.words.now - l.at) + 2
 
-abbrev pub invariant-choices-loop-tape : goal.invariant-choices-loop-tape
-invariant-choices-loop-tape l = Turned flat (λ ms f a ws. cond_l ms f l.arm a ws) l.words l.initial.x l.initial.m l.initial.tape l.x l.m l.tape
+abbrev pub invariant-choices-loop-items : goal.invariant-choices-loop-items
+invariant-choices-loop-items l = Turned flat (λ ms f a ws. cond_l ms f l.arm a ws) l.words l.initial.x l.initial.items.n l.initial.items.tape l.x l.items.n l.items.tape
 
-abbrev pub decreases-choices-loop-tape : goal.decreases-choices-loop-tape
-decreases-choices-loop-tape l = count l.words - l.x
+abbrev pub decreases-choices-loop-items : goal.decreases-choices-loop-items
+decreases-choices-loop-items l = count l.words - l.x
 
 abbrev pub invariant-operators-loop-at : goal.invariant-operators-loop-at
-invariant-operators-loop-at l = Turned flat (λ ms f a ws. bin_l ms f l.arm l.below a ws) l.words l.initial.x l.initial.m l.initial.tape l.x l.m l.tape
+invariant-operators-loop-at l = Turned flat (λ ms f a ws. bin_l ms f l.arm l.below a ws) l.words l.initial.x l.initial.items.n l.initial.items.tape l.x l.items.n l.items.tape
 
 abbrev pub decreases-operators-loop-at : goal.decreases-operators-loop-at
 decreases-operators-loop-at l = count l.words - l.x
 
-abbrev pub invariant-parts-loop-tape : goal.invariant-parts-loop-tape
-invariant-parts-loop-tape l = Turned flat (λ ms f a ws. part_l ms f a ws) l.words l.initial.x l.initial.m l.initial.tape l.x l.m l.tape
+abbrev pub invariant-parts-loop-items : goal.invariant-parts-loop-items
+invariant-parts-loop-items l = Turned flat (λ ms f a ws. part_l ms f a ws) l.words l.initial.x l.initial.items.n l.initial.items.tape l.x l.items.n l.items.tape
 
-abbrev pub decreases-parts-loop-tape : goal.decreases-parts-loop-tape
-decreases-parts-loop-tape l = count l.words - l.x
+abbrev pub decreases-parts-loop-items : goal.decreases-parts-loop-items
+decreases-parts-loop-items l = count l.words - l.x

@@ -48,27 +48,27 @@ returns-in_err-first c = rw (same_err c.from_residual-in_err-first.ensures.1) (r
 pub expect-requires-2 : goal.expect-requires-2
 expect-requires-2 c = omega (arith, c.requires, c.in_ok-x.ensures, found_at (omega arith) c.in_ok-x.ensures)
 
-pub put-m-requires-clause-n_bound : goal.put-m-requires-clause-n_bound
-put-m-requires-clause-n_bound c = omega (arith, c.requires, c.in_ok-x.ensures, found_at (omega arith) c.in_ok-x.ensures, c.in_ok-y.ensures, found_at (omega arith) c.in_ok-y.ensures)
+pub put-requires-clause-n_bound : goal.put-requires-clause-n_bound
+put-requires-clause-n_bound c = omega (arith, c.requires, c.in_ok-x.ensures, found_at (omega arith) c.in_ok-x.ensures, c.in_ok-y.ensures, found_at (omega arith) c.in_ok-y.ensures)
 
-pub put-m-requires-clause-within : goal.put-m-requires-clause-within
-put-m-requires-clause-within c = omega (arith, c.requires, c.in_ok-x.ensures, found_at (omega arith) c.in_ok-x.ensures, c.in_ok-y.ensures, found_at (omega arith) c.in_ok-y.ensures)
+pub put-requires-clause-within : goal.put-requires-clause-within
+put-requires-clause-within c = omega (arith, c.requires, c.in_ok-x.ensures, found_at (omega arith) c.in_ok-x.ensures, c.in_ok-y.ensures, found_at (omega arith) c.in_ok-y.ensures)
 
 pub signature-requires : goal.signature-requires
-signature-requires c = omega (arith, c.requires, c.in_ok-x.ensures, found_at (omega arith) c.in_ok-x.ensures, c.in_ok-y.ensures, found_at (omega arith) c.in_ok-y.ensures, c.put-m.ensures)
+signature-requires c = omega (arith, c.requires, c.in_ok-x.ensures, found_at (omega arith) c.in_ok-x.ensures, c.in_ok-y.ensures, found_at (omega arith) c.in_ok-y.ensures, c.put.ensures)
 
 pub expect-requires-4 : goal.expect-requires-4
 expect-requires-4 c = omega (arith, c.requires, c.in_ok-x.ensures, found_at (omega arith) c.in_ok-x.ensures, c.in_ok-y.ensures, found_at (omega arith) c.in_ok-y.ensures, c.in_ok-z.ensures.moved.to, c.in_ok-end.ensures, found_at (omega arith) c.in_ok-end.ensures)
 
 pub declarations-requires : goal.declarations-requires
-declarations-requires c = omega (arith, c.requires, c.in_ok-x.ensures, found_at (omega arith) c.in_ok-x.ensures, c.in_ok-y.ensures, found_at (omega arith) c.in_ok-y.ensures, c.in_ok-z.ensures.moved.to, c.in_ok-end.ensures, found_at (omega arith) c.in_ok-end.ensures, c.in_ok-first.ensures, found_at (omega arith) c.in_ok-first.ensures, c.put-m.ensures)
+declarations-requires c = omega (arith, c.requires, c.in_ok-x.ensures, found_at (omega arith) c.in_ok-x.ensures, c.in_ok-y.ensures, found_at (omega arith) c.in_ok-y.ensures, c.in_ok-z.ensures.moved.to, c.in_ok-end.ensures, found_at (omega arith) c.in_ok-end.ensures, c.in_ok-first.ensures, found_at (omega arith) c.in_ok-first.ensures, c.put.ensures)
 
 pub returns : goal.returns
 returns c = record {
-  moved = moved_more (omega (arith, c.requires, c.in_ok-x.ensures, found_at (omega arith) c.in_ok-x.ensures, c.in_ok-y.ensures, found_at (omega arith) c.in_ok-y.ensures, c.in_ok-z.ensures.moved.to, c.in_ok-end.ensures, found_at (omega arith) c.in_ok-end.ensures, c.in_ok-first.ensures, found_at (omega arith) c.in_ok-first.ensures, c.put-m.ensures)) c.declarations.ensures.moved;
+  moved = moved_more (omega (arith, c.requires, c.in_ok-x.ensures, found_at (omega arith) c.in_ok-x.ensures, c.in_ok-y.ensures, found_at (omega arith) c.in_ok-y.ensures, c.in_ok-z.ensures.moved.to, c.in_ok-end.ensures, found_at (omega arith) c.in_ok-end.ensures, c.in_ok-first.ensures, found_at (omega arith) c.in_ok-first.ensures, c.put.ensures)) c.declarations.ensures.moved;
   agrees = λ M f h. rw (head_name M _ f c.in_ok-x.ensures)
       (rw (expect_found M s_open _ c.in_ok-y.ensures)
       (until_ok M s_close _ _ (c.in_ok-z.ensures.agrees M f (omega (arith, c.requires, c.in_ok-x.ensures, found_at (omega arith) c.in_ok-x.ensures, c.in_ok-y.ensures, found_at (omega arith) c.in_ok-y.ensures))) c.in_ok-end.ensures (λ a p on₁.
       rw (expect_found M s_brace _ c.in_ok-first.ensures)
-      (c.declarations.ensures.agrees M f (omega (arith, c.requires, c.in_ok-x.ensures, found_at (omega arith) c.in_ok-x.ensures, c.in_ok-y.ensures, found_at (omega arith) c.in_ok-y.ensures, c.in_ok-z.ensures.moved.to, c.in_ok-end.ensures, found_at (omega arith) c.in_ok-end.ensures, c.in_ok-first.ensures, found_at (omega arith) c.in_ok-first.ensures)) _ a (on_more c.put-m.ensures on₁)))));
+      (c.declarations.ensures.agrees M f (omega (arith, c.requires, c.in_ok-x.ensures, found_at (omega arith) c.in_ok-x.ensures, c.in_ok-y.ensures, found_at (omega arith) c.in_ok-y.ensures, c.in_ok-z.ensures.moved.to, c.in_ok-end.ensures, found_at (omega arith) c.in_ok-end.ensures, c.in_ok-first.ensures, found_at (omega arith) c.in_ok-first.ensures)) _ a (on_more c.put.ensures on₁)))));
 }

@@ -7,7 +7,7 @@ use Rattle.readers.proofs.Lists.{Listed}
 use Rattle.head_reader.proofs.ports.Given as goal
 
 abbrev pub invariant-loop-at : goal.invariant-loop-at
-invariant-loop-at l = Listed flat_port is_way (λ ms f i r. port_p f i r) l.words l.initial.x l.initial.m l.initial.tape l.x l.m l.tape
+invariant-loop-at l = Listed flat_port is_way (λ ms f i r. port_p f i r) l.words l.initial.x l.initial.items.n l.initial.items.tape l.x l.items.n l.items.tape
 
 abbrev pub decreases-loop-at : goal.decreases-loop-at
 decreases-loop-at l = count l.words - l.x

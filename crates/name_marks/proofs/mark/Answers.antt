@@ -15,11 +15,11 @@ pub loop-i-preserved : goal.loop-i-preserved
 unfolding count
 loop-i-preserved c = elim c.if-words-i-eq-NAME.branch [
   | then-words-i-eq-NAME w ↦ rw w.words-is (remarked_word c.loop-i.invariant w.if-words-i-eq-NAME.true (omega (arith, c.loop-i.invariant.size, c.requires.tabled, c.loop-i-test)) refl refl
-      (w.value.ensures ∙ ap (name_mark (memories_on c.args.text.now c.args.tape.now c.args.n)) w.part.ensures))
+      (w.value.ensures ∙ ap (name_mark (memories_on c.args.text.now c.args.items.now.tape c.args.items.now.n)) w.part.ensures))
   | else-words-i-eq-NAME w ↦ rw w.words-is (remarked_skip c.loop-i.invariant w.if-words-i-eq-NAME.false)
 ]
 
 pub returns : goal.returns
 unfolding count
 returns c = let e : c.loop-i.i ≡ count c.args.words.now = omega arith in
-    subst (λ (i : ℕ). Remarked c.args.text.now (memories_on c.args.text.now c.args.tape.now c.args.n) i c.args.words.now c.loop-i.words) e c.loop-i.invariant
+    subst (λ (i : ℕ). Remarked c.args.text.now (memories_on c.args.text.now c.args.items.now.tape c.args.items.now.n) i c.args.words.now c.loop-i.words) e c.loop-i.invariant

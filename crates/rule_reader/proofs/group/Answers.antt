@@ -39,13 +39,13 @@ pub expect-requires-2 : goal.expect-requires-2
 expect-requires-2 c = omega (arith, c.requires, c.in_ok-x.ensures, found_at (omega arith) c.in_ok-x.ensures)
 
 pub rules-requires : goal.rules-requires
-rules-requires c = omega (arith, c.requires, c.in_ok-x.ensures, found_at (omega arith) c.in_ok-x.ensures, c.in_ok-expect.ensures, found_at (omega arith) c.in_ok-expect.ensures, c.put-m.ensures)
+rules-requires c = omega (arith, c.requires, c.in_ok-x.ensures, found_at (omega arith) c.in_ok-x.ensures, c.in_ok-expect.ensures, found_at (omega arith) c.in_ok-expect.ensures, c.put.ensures)
 
 pub returns : goal.returns
 unfolding flat_group
 returns c = record {
-  moved = omega (arith, c.requires, c.in_ok-x.ensures, found_at (omega arith) c.in_ok-x.ensures, c.in_ok-expect.ensures, found_at (omega arith) c.in_ok-expect.ensures, c.in_ok-y.ensures.moved.to, c.in_ok-z.ensures, found_at (omega arith) c.in_ok-z.ensures, c.put-m.ensures, c.emit.ensures);
+  moved = omega (arith, c.requires, c.in_ok-x.ensures, found_at (omega arith) c.in_ok-x.ensures, c.in_ok-expect.ensures, found_at (omega arith) c.in_ok-expect.ensures, c.in_ok-y.ensures.moved.to, c.in_ok-z.ensures, found_at (omega arith) c.in_ok-z.ensures, c.put.ensures, c.emit.ensures);
   agrees = λ M f h. rw (group_some M f c.args.at _ c.in_ok-x.ensures c.in_ok-expect.ensures.kind)
       (until_ok M s_close _ _ (c.in_ok-y.ensures.agrees M (suc f) (omega (arith, c.requires, c.in_ok-x.ensures, found_at (omega arith) c.in_ok-x.ensures, c.in_ok-expect.ensures, found_at (omega arith) c.in_ok-expect.ensures))) c.in_ok-z.ensures (λ a p on₁.
-      read (on_more (on_more c.put-m.ensures on₁) c.emit.ensures)));
+      read (on_more (on_more c.put.ensures on₁) c.emit.ensures)));
 }

@@ -39,20 +39,20 @@ returns-in_err-first c = rw (same_err c.from_residual-in_err-first.ensures.1) (r
 })
 
 pub entries-requires : goal.entries-requires
-entries-requires c = omega (arith, c.requires, c.in_ok-x.ensures, found_at (omega arith) c.in_ok-x.ensures, c.put-m.ensures)
+entries-requires c = omega (arith, c.requires, c.in_ok-x.ensures, found_at (omega arith) c.in_ok-x.ensures, c.put.ensures)
 
 pub expect-requires-3 : goal.expect-requires-3
 expect-requires-3 c = omega (arith, c.requires, c.in_ok-x.ensures, found_at (omega arith) c.in_ok-x.ensures, c.in_ok-y.ensures.moved.to, c.in_ok-z.ensures, found_at (omega arith) c.in_ok-z.ensures)
 
 pub body-requires : goal.body-requires
-body-requires c = omega (arith, c.requires, c.in_ok-x.ensures, found_at (omega arith) c.in_ok-x.ensures, c.in_ok-y.ensures.moved.to, c.in_ok-z.ensures, found_at (omega arith) c.in_ok-z.ensures, c.in_ok-first.ensures, found_at (omega arith) c.in_ok-first.ensures, c.put-m.ensures)
+body-requires c = omega (arith, c.requires, c.in_ok-x.ensures, found_at (omega arith) c.in_ok-x.ensures, c.in_ok-y.ensures.moved.to, c.in_ok-z.ensures, found_at (omega arith) c.in_ok-z.ensures, c.in_ok-first.ensures, found_at (omega arith) c.in_ok-first.ensures, c.put.ensures)
 
 pub returns : goal.returns
 returns c = record {
-  moved = moved_more (omega (arith, c.requires, c.in_ok-x.ensures, found_at (omega arith) c.in_ok-x.ensures, c.in_ok-y.ensures.moved.to, c.in_ok-z.ensures, found_at (omega arith) c.in_ok-z.ensures, c.in_ok-first.ensures, found_at (omega arith) c.in_ok-first.ensures, c.put-m.ensures)) c.body.ensures.moved;
+  moved = moved_more (omega (arith, c.requires, c.in_ok-x.ensures, found_at (omega arith) c.in_ok-x.ensures, c.in_ok-y.ensures.moved.to, c.in_ok-z.ensures, found_at (omega arith) c.in_ok-z.ensures, c.in_ok-first.ensures, found_at (omega arith) c.in_ok-first.ensures, c.put.ensures)) c.body.ensures.moved;
   agrees = λ M f h. rw (rule_law _ f _ _)
       (rw (expect_found M s_open _ c.in_ok-x.ensures)
       (until_ok M s_close _ _ (c.in_ok-y.ensures.agrees M f (omega (arith, c.requires, c.in_ok-x.ensures, found_at (omega arith) c.in_ok-x.ensures))) c.in_ok-z.ensures (λ a p on₁.
       rw (expect_found M s_brace _ c.in_ok-first.ensures)
-      (c.body.ensures.agrees M f (omega (arith, c.requires, c.in_ok-x.ensures, found_at (omega arith) c.in_ok-x.ensures, c.in_ok-y.ensures.moved.to, c.in_ok-z.ensures, found_at (omega arith) c.in_ok-z.ensures, c.in_ok-first.ensures, found_at (omega arith) c.in_ok-first.ensures)) _ a (on_more c.put-m.ensures on₁)))));
+      (c.body.ensures.agrees M f (omega (arith, c.requires, c.in_ok-x.ensures, found_at (omega arith) c.in_ok-x.ensures, c.in_ok-y.ensures.moved.to, c.in_ok-z.ensures, found_at (omega arith) c.in_ok-z.ensures, c.in_ok-first.ensures, found_at (omega arith) c.in_ok-first.ensures)) _ a (on_more c.put.ensures on₁)))));
 }

@@ -6,10 +6,10 @@ use Rattle.rule_reader.proofs.Ruled.{name_begins, name_misses}
 use Rattle.rule_reader.proofs.rules.Goals as goal
 
 pub returns-in_err-x : goal.returns-in_err-x
-returns-in_err-x c = rw (same_err c.from_residual.ensures.1) (list_fault c.loop-tape.invariant (name_begins (sym c.kind.ensures.is ∙ c.loop-tape-test.true)) c.in_err-x.ensures)
+returns-in_err-x c = rw (same_err c.from_residual.ensures.1) (list_fault c.loop-items.invariant (name_begins (sym c.kind.ensures.is ∙ c.loop-items-test.true)) c.in_err-x.ensures)
 
-pub loop-tape-preserved : goal.loop-tape-preserved
-loop-tape-preserved c = list_more c.loop-tape.invariant (name_begins (sym c.kind.ensures.is ∙ c.loop-tape-test.true)) c.in_ok-x.ensures
+pub loop-items-preserved : goal.loop-items-preserved
+loop-items-preserved c = list_more c.loop-items.invariant (name_begins (sym c.kind.ensures.is ∙ c.loop-items-test.true)) c.in_ok-x.ensures
 
 pub returns : goal.returns
-returns c = list_ends c.loop-tape.invariant (name_misses (λ q. c.loop-tape-test.false (c.kind.ensures.is ∙ q)))
+returns c = list_ends c.loop-items.invariant (name_misses (λ q. c.loop-items-test.false (c.kind.ensures.is ∙ q)))

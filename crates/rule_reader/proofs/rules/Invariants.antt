@@ -7,8 +7,8 @@ use Rattle.readers.specs.Marks.{count}
 use Rattle.readers.proofs.Lists.{Listed}
 use Rattle.rule_reader.proofs.rules.Given as goal
 
-abbrev pub invariant-loop-tape : goal.invariant-loop-tape
-invariant-loop-tape l = Listed flat_rule is_name (λ ms f n r. rule_p ms f n r) l.words l.initial.x l.initial.m l.initial.tape l.x l.m l.tape
+abbrev pub invariant-loop-items : goal.invariant-loop-items
+invariant-loop-items l = Listed flat_rule is_name (λ ms f n r. rule_p ms f n r) l.words l.initial.x l.initial.items.n l.initial.items.tape l.x l.items.n l.items.tape
 
-abbrev pub decreases-loop-tape : goal.decreases-loop-tape
-decreases-loop-tape l = count l.words - l.x
+abbrev pub decreases-loop-items : goal.decreases-loop-items
+decreases-loop-items l = count l.words - l.x

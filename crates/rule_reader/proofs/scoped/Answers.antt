@@ -28,19 +28,19 @@ returns-in_err-y c = rw (same_err c.from_residual-in_err-y.ensures.1) (record {
       (until_missed M s_in _ _ (c.in_ok-x.ensures.agrees M (suc f) (omega (arith, c.requires, c.in_ok-expect.ensures, found_at (omega arith) c.in_ok-expect.ensures))) c.in_err-y.ensures);
 })
 
-pub emit-m-requires : goal.emit-m-requires
-emit-m-requires c = omega (arith, c.requires, c.in_ok-expect.ensures, found_at (omega arith) c.in_ok-expect.ensures)
+pub emit-requires : goal.emit-requires
+emit-requires c = omega (arith, c.requires, c.in_ok-expect.ensures, found_at (omega arith) c.in_ok-expect.ensures)
 
 pub vals-requires : goal.vals-requires
-vals-requires c = omega (arith, c.requires, c.in_ok-expect.ensures, found_at (omega arith) c.in_ok-expect.ensures, c.emit-m.ensures)
+vals-requires c = omega (arith, c.requires, c.in_ok-expect.ensures, found_at (omega arith) c.in_ok-expect.ensures, c.emit.ensures)
 
 pub written-requires : goal.written-requires
-written-requires c = omega (arith, c.requires, c.in_ok-expect.ensures, found_at (omega arith) c.in_ok-expect.ensures, c.in_ok-x.ensures.moved.to, c.in_ok-y.ensures, found_at (omega arith) c.in_ok-y.ensures, c.emit-m.ensures)
+written-requires c = omega (arith, c.requires, c.in_ok-expect.ensures, found_at (omega arith) c.in_ok-expect.ensures, c.in_ok-x.ensures.moved.to, c.in_ok-y.ensures, found_at (omega arith) c.in_ok-y.ensures, c.emit.ensures)
 
 pub returns : goal.returns
 returns c = record {
-  moved = moved_more (omega (arith, c.requires, c.in_ok-expect.ensures, found_at (omega arith) c.in_ok-expect.ensures, c.in_ok-x.ensures.moved.to, c.in_ok-y.ensures, found_at (omega arith) c.in_ok-y.ensures, c.emit-m.ensures)) c.written.ensures.moved;
+  moved = moved_more (omega (arith, c.requires, c.in_ok-expect.ensures, found_at (omega arith) c.in_ok-expect.ensures, c.in_ok-x.ensures.moved.to, c.in_ok-y.ensures, found_at (omega arith) c.in_ok-y.ensures, c.emit.ensures)) c.written.ensures.moved;
   agrees = λ M f h. rw (scoped_some M f _ _ c.in_ok-expect.ensures.kind)
       (until_ok M s_in _ _ (c.in_ok-x.ensures.agrees M (suc f) (omega (arith, c.requires, c.in_ok-expect.ensures, found_at (omega arith) c.in_ok-expect.ensures))) c.in_ok-y.ensures (λ a p on₁.
-      c.written.ensures.agrees M f (omega (arith, c.requires, c.in_ok-expect.ensures, found_at (omega arith) c.in_ok-expect.ensures, c.in_ok-x.ensures.moved.to, c.in_ok-y.ensures, found_at (omega arith) c.in_ok-y.ensures)) a (on_more c.emit-m.ensures on₁)));
+      c.written.ensures.agrees M f (omega (arith, c.requires, c.in_ok-expect.ensures, found_at (omega arith) c.in_ok-expect.ensures, c.in_ok-x.ensures.moved.to, c.in_ok-y.ensures, found_at (omega arith) c.in_ok-y.ensures)) a (on_more c.emit.ensures on₁)));
 }

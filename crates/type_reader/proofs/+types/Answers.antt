@@ -37,22 +37,22 @@ within-returns t c = record {
 pub entries-returns-in_err-x : goal.entries-returns-in_err-x
 entries-returns-in_err-x t c = rw (same_err c.from_residual.ensures.1) (record {
   moved = record { to = c.in_err-x.ensures.moved.to };
-  agrees = λ M f h e on. c.loop-tape.invariant.goes M _ _ _ _ (λ a on f h. rw (suc_of f (omega (arith, c.loop-tape.invariant.went))) (rw (entry_more M (f - 1) _ a (sym c.kind.ensures.is ∙ c.loop-tape-test.true))
-      (bind_err _ _ (c.in_err-x.ensures.agrees M (f - 1) (omega (arith, c.loop-tape.invariant.went)))))) e on f h;
+  agrees = λ M f h e on. c.loop-items.invariant.goes M _ _ _ _ (λ a on f h. rw (suc_of f (omega (arith, c.loop-items.invariant.went))) (rw (entry_more M (f - 1) _ a (sym c.kind.ensures.is ∙ c.loop-items-test.true))
+      (bind_err _ _ (c.in_err-x.ensures.agrees M (f - 1) (omega (arith, c.loop-items.invariant.went)))))) e on f h;
 })
 
-pub entries-loop-tape-preserved : goal.entries-loop-tape-preserved
+pub entries-loop-items-preserved : goal.entries-loop-items-preserved
 unfolding flat_t
-entries-loop-tape-preserved t c = let w = c.in_ok-x.ensures.moved.to in record {
-  went = omega (arith, c.loop-tape.invariant.went);
-  goes = λ M s b r t' k. c.loop-tape.invariant.goes M s b r t' (λ a on f h. rw (suc_of f (omega (arith, c.loop-tape.invariant.went))) (rw (entry_more M (f - 1) _ a (sym c.kind.ensures.is ∙ c.loop-tape-test.true))
-      (bind_ok _ _ (c.in_ok-x.ensures.agrees M (f - 1) (omega (arith, c.loop-tape.invariant.went))) (λ e on₁. k (entry a e) (on_more (on_more on on₁) c.emit-m.ensures) (f - 1) (omega arith)))));
+entries-loop-items-preserved t c = let w = c.in_ok-x.ensures.moved.to in record {
+  went = omega (arith, c.loop-items.invariant.went);
+  goes = λ M s b r t' k. c.loop-items.invariant.goes M s b r t' (λ a on f h. rw (suc_of f (omega (arith, c.loop-items.invariant.went))) (rw (entry_more M (f - 1) _ a (sym c.kind.ensures.is ∙ c.loop-items-test.true))
+      (bind_ok _ _ (c.in_ok-x.ensures.agrees M (f - 1) (omega (arith, c.loop-items.invariant.went))) (λ e on₁. k (entry a e) (on_more (on_more on on₁) c.emit.ensures) (f - 1) (omega arith)))));
 }
 
 pub entries-returns : goal.entries-returns
 entries-returns t c = record {
-  moved = record { to = c.loop-tape.invariant.went };
-  agrees = λ M f h e on. c.loop-tape.invariant.goes M _ _ _ _ (λ a on f h. rw (suc_of f (omega (arith, c.loop-tape.invariant.went))) (rw (entry_stop M (f - 1) _ a (λ q. c.loop-tape-test.false (c.kind.ensures.is ∙ q))) (read on))) e on f h;
+  moved = record { to = c.loop-items.invariant.went };
+  agrees = λ M f h e on. c.loop-items.invariant.goes M _ _ _ _ (λ a on f h. rw (suc_of f (omega (arith, c.loop-items.invariant.went))) (rw (entry_stop M (f - 1) _ a (λ q. c.loop-items-test.false (c.kind.ensures.is ∙ q))) (read on))) e on f h;
 }
 
 pub function-returns-in_err-x : goal.function-returns-in_err-x
@@ -144,7 +144,7 @@ unfolding flat_t
 sums-loop-at-preserved t c = let w = c.in_ok-x.ensures.moved.to in let q = pos c.if-op-eq0.false in record {
   went = omega (arith, c.loop-at.invariant.went);
   goes = λ M s b r t' k. c.loop-at.invariant.goes M s b r t' (λ a on f h. rw (suc_of f (omega (arith, c.loop-at.invariant.went))) (let z = c.sum-op.ensures.more q in let F = sum_law M (f - 1) _ _ a (sym c.kind.ensures.is ∙ z.0, z.1, z.2) in rw F.reads
-      (bind_ok _ _ (c.in_ok-x.ensures.agrees M (f - 1) (omega (arith, c.loop-at.invariant.went))) (λ e on₁. k (F.makes e) (on_as (sym (F.items e)) (on_more (on_more on on₁) c.emit-m.ensures)) (f - 1) (omega arith)))));
+      (bind_ok _ _ (c.in_ok-x.ensures.agrees M (f - 1) (omega (arith, c.loop-at.invariant.went))) (λ e on₁. k (F.makes e) (on_as (sym (F.items e)) (on_more (on_more on on₁) c.emit.ensures)) (f - 1) (omega arith)))));
 }
 
 pub term-returns-in_default : goal.term-returns-in_default

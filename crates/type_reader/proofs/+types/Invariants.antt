@@ -27,14 +27,14 @@ decreases-typ l = 8 * (count l.words.now - l.at) + 3
 abbrev pub decreases-within : goal.decreases-within
 decreases-within l = 8 * (count l.words.now - l.at) + 1
 
-abbrev pub invariant-entries-loop-tape : goal.invariant-entries-loop-tape
-invariant-entries-loop-tape l = Turned flat_t (λ ms f a ws. entry_l f a ws) l.words l.initial.x l.initial.m l.initial.tape l.x l.m l.tape
+abbrev pub invariant-entries-loop-items : goal.invariant-entries-loop-items
+invariant-entries-loop-items l = Turned flat_t (λ ms f a ws. entry_l f a ws) l.words l.initial.x l.initial.items.n l.initial.items.tape l.x l.items.n l.items.tape
 
-abbrev pub decreases-entries-loop-tape : goal.decreases-entries-loop-tape
-decreases-entries-loop-tape l = count l.words - l.x
+abbrev pub decreases-entries-loop-items : goal.decreases-entries-loop-items
+decreases-entries-loop-items l = count l.words - l.x
 
 abbrev pub invariant-sums-loop-at : goal.invariant-sums-loop-at
-invariant-sums-loop-at l = Turned flat_t (λ ms f a ws. type_l f a ws) l.words l.initial.x l.initial.m l.initial.tape l.x l.m l.tape
+invariant-sums-loop-at l = Turned flat_t (λ ms f a ws. type_l f a ws) l.words l.initial.x l.initial.items.n l.initial.items.tape l.x l.items.n l.items.tape
 
 abbrev pub decreases-sums-loop-at : goal.decreases-sums-loop-at
 decreases-sums-loop-at l = count l.words - l.x

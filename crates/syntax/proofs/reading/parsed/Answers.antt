@@ -1,5 +1,6 @@
 -- `syntax::reading::parsed` meets its contract. Assumes nothing.
 use native.Mathlib.Omega.{arith}
+use mathlib.Core.Path.{refl}
 use Rattle.name_marks.specs.Marking.{runs_at, places_on}
 use Rattle.syntax.proofs.Whole.{filed_ready, few_read, tree_taped, parsed_tree, parsed_fault, copied}
 use borrow.Author.Rules.{rules}
@@ -7,7 +8,7 @@ use Rattle.syntax.proofs.reading.parsed.Goals as goal
 
 pub tree-requires : goal.tree-requires
 unfolding runs_at places_on
-tree-requires c = record { ready = filed_ready c.requires c.mark.ensures; taped = search rules }
+tree-requires c = record { ready = filed_ready c.requires c.mark.ensures; none = refl; taped = search rules }
 
 pub returns-in-Ok : goal.returns-in-Ok
 unfolding runs_at places_on

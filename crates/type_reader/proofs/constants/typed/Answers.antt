@@ -21,14 +21,14 @@ returns-in_err-y c = rw (same_err c.from_residual-in_err-y.ensures.1) (record {
 })
 
 pub amount-requires : goal.amount-requires
-amount-requires c = omega (arith, c.requires, c.in_ok-x.ensures.moved.to, c.in_ok-y.ensures, found_at (omega arith) c.in_ok-y.ensures, c.put-q.ensures)
+amount-requires c = omega (arith, c.requires, c.in_ok-x.ensures.moved.to, c.in_ok-y.ensures, found_at (omega arith) c.in_ok-y.ensures, c.put.ensures)
 
 pub returns : goal.returns
 unfolding flat_b
 returns c = let w = c.in_ok-x.ensures.moved.to in record {
-  moved = moved_more (omega (arith, c.requires, c.in_ok-y.ensures, found_at (omega arith) c.in_ok-y.ensures, c.put-q.ensures)) c.amount.ensures.moved;
+  moved = moved_more (omega (arith, c.requires, c.in_ok-y.ensures, found_at (omega arith) c.in_ok-y.ensures, c.put.ensures)) c.amount.ensures.moved;
   agrees = λ M f h. rw (suc_of f (omega (arith, c.requires)))
       (rw (operand_typed M (f - 1) _ c.requires.kind)
       (until_ok M s_greater _ _ (c.in_ok-x.ensures.agrees M (f - 1) (omega (arith, c.requires))) c.in_ok-y.ensures
-      (λ a p on. c.amount.ensures.agrees M _ (on_more on c.put-q.ensures))));
+      (λ a p on. c.amount.ensures.agrees M _ (on_more on c.put.ensures))));
 }

@@ -10,5 +10,5 @@ pub returns : goal.returns
 unfolding flat_b
 returns c = record {
   moved = moved_more (omega (arith, c.requires)) c.amount.ensures.moved;
-  agrees = λ M f h. rw (suc_of2 f (omega (arith, c.requires))) (rw (operand_width M (f - 2) _ c.requires.starts.kind c.requires.valued) (c.amount.ensures.agrees M _ (rw c.value.ensures at c.put-m.ensures)));
+  agrees = λ M f h. rw (suc_of2 f (omega (arith, c.requires))) (rw (operand_width M (f - 2) _ c.requires.starts.kind c.requires.valued) (c.amount.ensures.agrees M _ (rw c.value.ensures at c.put.ensures)));
 }
