@@ -43,7 +43,7 @@ const VALUE: usize = language::Type::NUMBER as usize;
 
 const LINES: usize = language::Bindings::LINES as usize;
 
-// Three numbers for each line of a section, and two sections.
+// Three numbers for each line of a section, and two sections. Numbers and no structs: the clauses name the layout (`table_of`).
 const SECTION: usize = 3 * LINES;
 
 pub const NUMBERS: usize = 2 * SECTION;

@@ -21,3 +21,10 @@ pub record SameTexts (old new : Tables) : Type 0 where
   pub actor : new.actor ≡ old.actor
   pub bindings : new.bindings ≡ old.bindings
   pub plan : new.plan ≡ old.plan
+
+-- all is left as it was but the bytes that wait to be written
+pub record SameButOut (old new : Tables) : Type 0 where
+  pub texts : SameTexts old new
+  pub values : new.values ≡ old.values
+  pub outputs : new.outputs ≡ old.outputs
+  pub memory : new.memory ≡ old.memory

@@ -5,6 +5,7 @@ ghost use Rattle.figures.specs.Written.{number_bytes};
 ghost use Rattle.language.specs.Worked.{line, is_bad};
 ghost use Rattle.figures.specs.Written.{Wrote, blanked};
 ghost use Rattle.input_bytes.specs.Bytes.{machine_of, ended_of};
+ghost use Rattle.input_bytes.specs.Tables.{SameButOut};
 
 use crate::tables::Tables;
 use crate::turns::{cells, planned};
@@ -57,7 +58,8 @@ fn show_bad(out: &mut [u8], at: usize) -> usize
 // The input has ended, or no more of it is read.
 pub fn ended(s: State, tables: &mut Tables) -> usize
     requires { s.at + cells_bytes ≤ length tables.old.out }
-    ensures { Wrote tables.old.out s.at (ended_of (machine_of s tables.old)) cells_bytes result tables.new.out }
+    ensures written { Wrote tables.old.out s.at (ended_of (machine_of s tables.old)) cells_bytes result tables.new.out }
+    ensures others { SameButOut tables.old tables.new }
 {
     match s.stage {
         Stage::Through => {

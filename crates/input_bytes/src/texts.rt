@@ -46,6 +46,7 @@ pub fn actor_byte(s: State, b: u8, actor: &mut [u8]) -> State
     }
 }
 
+// As `actor_byte` but for the field that has the length: one function would be passed both ways to it, and be no plainer.
 #[tactic(auto, unfolding(crate::specs::Texts::bindings_byte))]
 pub fn bindings_byte(s: State, b: u8, bindings: &mut [u8]) -> State
     ensures { (result ≡ bindings_byte s (length bindings.old)) × (bindings.new ≡ set bindings.old s.bindings b) }
