@@ -1,6 +1,7 @@
 // The first fault of each text of a list, by rows 1 to 5 of document 01, or else its tape.
 // What comes in, on standard input: byte count, newline and bytes of an actor, the same of its bindings, and so on.
-// What goes out: for each pair the row and the place of its fault in rows 2 to 4, or 0, kinds and places of the words, a sized constant's value after it; then those of row 5 (or 1), or 0 and the tape.
+// What goes out: for each pair the row and the place of its fault in rows 2 to 4, or 0, kinds and places of the words, a sized
+// constant's value after it; then those of row 5 (or 1), or 0 and the tape.
 #![tactic(auto)]
 
 ghost use Rattle.std.specs.Prelude.{◌+◌, ◌*◌, ◌≤◌, ◌<◌, length};

@@ -9,7 +9,8 @@ ghost use Rattle.plan.specs.declared.Item.TheVariants.{Bad};
 use crate::Item;
 use language::{Binary, Unary};
 
-// The operations of items, as docs/PLAN.md numbers them.
+// The operations of items, as docs/PLAN.md numbers them. Numbers and no enum: a plan is a list of numbers, any of which may stand
+// there, and `decode` of specs/ is of them.
 const CONST: u32 = 0;
 
 const PORT: u32 = 1;

@@ -8,7 +8,7 @@ ghost use Rattle.plan.specs.Layout.{sum_of, greatest, farthest};
 
 use crate::MASK_BITS;
 
-// A number of 32 bits as a place: the one place that knows that none of them is too large for one.
+// A number of 32 bits as a place, with its bound, from which the sums of a layout have theirs.
 pub fn place(x: u32) -> usize
     ensures { (result ≡ x) × (result < 4294967296) }
 {

@@ -27,10 +27,12 @@ pub const OUTPUT: u32 = 256;
 // The bits of a mask, each of one port.
 pub const MASK_BITS: u32 = 32;
 
-// In a table of the slots' widths, that of a slot not kept: no width, 64 at most, is as large. A lent table holds numbers alone.
+// In a table of the slots' widths, that of a slot not kept: no width, 64 at most, is as large. A number and no `None`: `slot_width` of specs/ is
+// of lists of numbers.
 pub const UNSET: u32 = 99;
 
-// One item of a rule's code, as docs/PLAN.md numbers them. `Bad` is no item: it is a variant and no `None`, since `decode` and `check1` of specs/, and `fetch`'s contract, are of items.
+// One item of a rule's code, as docs/PLAN.md numbers them. `Bad` is no item: it is a variant and no `None`, since `decode` and
+// `check1` of specs/, and `fetch`'s contract, are of items.
 #[derive(Clone, Copy)]
 pub enum Item {
     Const(u32, u32, u32),

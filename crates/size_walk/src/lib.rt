@@ -12,7 +12,7 @@ use plan::Item;
 pub use statements::{assign, typed, val, write};
 pub use turns::onward;
 
-// What has no width: a fault is inside it.
+// What has no width: a fault is inside it. A number and no `None`: it stands in the definition's list of widths (`State`).
 pub const FAULTY: u32 = 99;
 
 // An expression that waits: its width and its first byte.

@@ -7,7 +7,7 @@ ghost use Rattle.std.specs.Prelude.{◌≡◌, true, ℕ, ◌+◌, ◌*◌, ◌�
 ghost use Rattle.language.specs.Words.{digit_of, digit_in, base_of, span as span_of, value_in_base};
 ghost use Rattle.sized_constants.specs.Constant.{amount_of, constant_at, most_base};
 
-// The base that a letter after `'` names; 0 where it names none.
+// The base that a letter after `'` names; 0 where it names none, as `base_of` has it.
 pub fn base(b: u8) -> usize
     ensures { result ≡ base_of b }
 {

@@ -62,7 +62,7 @@ pub fn is_name_byte(b: u8) -> bool
     is_plain(b) || b == b'_'
 }
 
-// Whether two parts are the same bytes.
+// Whether two parts are the same bytes, in the definition's words: callers cite `same` and not `==`.
 pub fn same_bytes(a: &[u8], b: &[u8]) -> bool
     ensures { result ≡ same a.now b.now }
 {
