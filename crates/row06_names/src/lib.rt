@@ -1,7 +1,7 @@
 // Row 6 of document 01: the names of an actor, read off its tape and its text.
 // What comes in: the text, and the tape that holds its actor. What goes out: the earliest place of a name that is
 // unknown, declared twice, of the wrong kind or twice in a list.
-#![tactic(auto)]
+#![tactic(auto, unfolding(crate::specs::Walk::test))]
 
 ghost use Rattle.std.specs.Prelude.{◌≡◌, List, ◌*◌, ◌≤◌, ◌<◌, length};
 ghost use Rattle.language.specs.Text.{earliest};
@@ -18,7 +18,6 @@ use tape::{
 };
 
 // Whether item i is at fault: this rule's items stand from `rule` on, the `let`s in force from `lets` on.
-#[tactic(auto, unfolding(crate::specs::Walk::test))]
 fn at_fault(text: &[u8], tape: &[u32], many: usize, rule: usize, lets: usize, i: usize) -> bool
     requires { (3 * many ≤ length tape.now) × (i < many) × (rule ≤ i) × (lets ≤ i) }
     ensures { result ≡ faulty text.now tape.now many rule lets i }
