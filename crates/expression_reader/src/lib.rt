@@ -10,7 +10,9 @@ ghost use Rattle.readers.specs.Meets.{Room, Starts, came};
 ghost use Rattle.expression_reader.specs.Expressions.{StartsMark, IsExpr, IsChoices, IsBinary, IsOperators, IsParts, IsArms};
 ghost use Rattle.type_reader.specs.Types.{IsOperand};
 
-use readers::{LOOSEST, Items, Misfit, Table, arm_ends, expect, kind, level, memory, prefix, value};
+use readers::{
+    Items, LOOSEST, Misfit, Table, arm_ends, expect, kind, level, memory, prefix, value,
+};
 use signs::kinds;
 use tape::{
     ARM, BESIDE, CELL, CHOICE, COPIES, DEFAULT, EITHER, INSIDE, JOINED, READ, SELECT, SELECTED,
@@ -62,7 +64,13 @@ fn choices(words: &Table, items: &mut Items, at: usize, arm: bool) -> Result<usi
 
 // Operands with operators of the levels below `below` between them.
 #[cycle(expressions)]
-fn binary(words: &Table, items: &mut Items, at: usize, below: u32, arm: bool) -> Result<usize, Misfit>
+fn binary(
+    words: &Table,
+    items: &mut Items,
+    at: usize,
+    below: u32,
+    arm: bool,
+) -> Result<usize, Misfit>
     requires room { Room words.now at items.old.n }
     requires below_le_loosest { below ≤ loosest }
     ensures { IsBinary words.now at items.old.n items.old.tape (came result items.new.n) items.new.tape below arm }
@@ -73,7 +81,13 @@ fn binary(words: &Table, items: &mut Items, at: usize, below: u32, arm: bool) ->
 
 // What follows an operand that is on the tape.
 #[cycle(expressions)]
-fn operators(words: &Table, items: &mut Items, at: usize, below: u32, arm: bool) -> Result<usize, Misfit>
+fn operators(
+    words: &Table,
+    items: &mut Items,
+    at: usize,
+    below: u32,
+    arm: bool,
+) -> Result<usize, Misfit>
     requires room { Room words.now at items.old.n }
     requires below_le_loosest { below ≤ loosest }
     ensures { IsOperators words.now at items.old.n items.old.tape (came result items.new.n) items.new.tape below arm }
