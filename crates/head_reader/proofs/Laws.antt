@@ -3,7 +3,7 @@ use mathlib.Core.Path.{◌≡◌, refl, sym, ap, ◌∙◌}
 use mathlib.Core.Bool.{Bool, true, false}
 use mathlib.Core.List.{List, [], ◌∷◌, ◌++◌}
 use mathlib.Core.Option.{Option, none, some}
-use Prim.Native.Nat.{ℕ, zero, suc, ◌+◌, ◌<◌}
+use Prim.Native.Nat.{ℕ, zero, suc, ◌+◌}
 use native.Mathlib.Omega.{arith}
 use mir.Val.{bool_byte}
 use lib.Dec.{eqb}
@@ -17,12 +17,12 @@ use Rattle.language.specs.Parser.{type_p, is_way, is_store, port_p, memory_p, na
 use Rattle.signs.specs.Kinds.{spelled_words}
 use Rattle.words.specs.Table.{word_of}
 use Rattle.tape.specs.Tape.{one_if}
-use Rattle.readers.specs.Marks.{count, kind_at, numeral_at, name_at, Marked, fixed_of}
+use Rattle.readers.specs.Marks.{kind_at, numeral_at, name_at, Marked, fixed_of}
 use Rattle.readers.specs.Meets.{Out, Finds, Lacks, On, Agrees, read, fault}
 use Rattle.head_reader.specs.Heads.{head_p}
 use Rattle.head_reader.specs.Declares.{port_name_p, memory_name_p, size_p, declarations_p}
 use Rattle.readers.proofs.Laws.{on_more, on_as}
-use Rattle.readers.proofs.Spells.{kind_inside, word, word_found, on_miss, num_miss, name_miss}
+use Rattle.readers.proofs.Spells.{word, word_found, on_miss, num_miss, name_miss}
 use Rattle.type_reader.proofs.Grammar.{declared_none, declared_some}
 use Rattle.readers.proofs.Lists.{Begins, Misses, some_begins, some_misses}
 use Rattle.readers.proofs.Fixed.{s_input, s_output, s_reg, s_ff}

@@ -16,6 +16,7 @@ pub struct Items {
 }
 
 impl Items {
+    // An item of three numbers, after those that are there.
     fn push(&mut self, op: u32, at: u32, v: u32)
         requires { self.old.n + 3 ≤ longest }
         ensures { On self.old.tape self.old.n (op ∷ at ∷ v ∷ []) self.new.n self.new.tape }

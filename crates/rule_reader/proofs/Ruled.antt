@@ -3,7 +3,7 @@ use mathlib.Core.Path.{◌≡◌, refl, sym, ap, ◌∙◌}
 use mathlib.Core.Bool.{Bool, true, false}
 use mathlib.Core.List.{List, [], ◌∷◌}
 use mathlib.Core.Option.{Option, none, some}
-use Prim.Native.Nat.{ℕ, zero, suc, ◌+◌}
+use Prim.Native.Nat.{ℕ, zero, suc, ◌+◌, ◌≤◌}
 use Prim.Native.String.{String}
 use native.Mathlib.Omega.{arith}
 use lib.ListN.{drop}
@@ -16,13 +16,15 @@ use Rattle.language.specs.Parser.{Start, opens, names, is_start, val_p, assignme
 use Rattle.signs.specs.Kinds.{spelled_words}
 use Rattle.words.specs.Table.{word_of}
 use Rattle.tape.specs.Tape.{flats, flat_val, flat_assignment, flat_statement, flat_group}
-use Rattle.readers.specs.Marks.{kind_at, place_at, name_at, Marked, fixed_of}
-use Rattle.readers.specs.Meets.{Agrees, read, fault, Met, Out, Finds, Lacks}
+use Rattle.readers.specs.Marks.{count, kind_at, place_at, name_at, Marked, fixed_of}
+use Rattle.std.specs.Prelude.{Result, Ok, Err}
+use Rattle.readers.specs.declared.Misfit.{Misfit}
+use Rattle.readers.specs.Meets.{On, Went, Moved, Agrees, read, fault, Met, Out, came, Finds, Lacks, Expects}
 use Rattle.rule_reader.specs.States.{IsAssignment, IsVal}
 use Rattle.rule_reader.specs.Rules.{IsScoped}
 use Rattle.rule_reader.specs.Tails.{written_p, body_p}
 use Rattle.readers.proofs.Laws.{on_more}
-use Rattle.readers.proofs.Spells.{Spells, one_or, is_as, is_miss, name_miss, on_is, off_is, expect_at, expect_bad, expect_found, expect_lacks}
+use Rattle.readers.proofs.Spells.{Spells, one_or, is_as, is_miss, name_miss, on_is, off_is, expect_at, expect_bad, expect_found, expect_lacks, until_ok, until_missed, found_at}
 use Rattle.readers.proofs.Fixed.{s_open, s_and, s_or, s_let, s_val}
 use Rattle.readers.proofs.Lists.{on_none, Begins, Misses, IsItem, some_begins, some_misses}
 
@@ -182,3 +184,16 @@ module _ {text : List ℕ} {ms : List (List ℕ)} {w : List ℕ} {ws : List Word
 
       pub and_none : {i : ℕ} → Lacks w x 9 i → constraint_p ms f (drop at ws) ≡ bad (drop i ws)
       and_none h = constraint_and ∙ expect_found M s_open _ q ∙ until_none M _ f ")" _ (is_misses s_or h.kind) h.stays
+
+-- ---- a reader that ends with `expect`, and answers what it answers
+
+pub moved_shut : (w : List ℕ) {at n x m kw : ℕ} (r : Result ℕ Misfit) → 1 ≤ kw → Went (count w) at n x m → Expects w x kw r → Moved (count w) at n (came r m)
+moved_shut w (Ok y) h v f = omega (arith, v, f, found_at h f)
+moved_shut w (Err e) h v f = omega (arith, v, f)
+
+module _ {text : List ℕ} {ms : List (List ℕ)} {w : List ℕ} {ws : List Word} (M : Marked text ms w ws) {s : String} {j : ℕ} (sp : Spells s j) {A B : Type 0} {fl : A → List ℕ} {fl' : B → List ℕ}
+    (u : Res A) (g : A → ℕ → List Word → Res B) {n b : ℕ} {t t₁ s₀ t' : List ℕ} where
+  pub until_shut : {x m q : ℕ} (r : Result ℕ Misfit) → Agrees fl ws n t u (Ok (x, m)) t₁ → Expects w x j r
+      → ((y : ℕ) (e : A) (p : ℕ) → On t n (fl e) m t₁ → Agrees fl' ws b s₀ (g e p (drop y ws)) (Ok (y, q)) t') → Agrees fl' ws b s₀ (until u s g) (came r q) t'
+  until_shut (Ok y) a f k = until_ok M sp u g a f (k y)
+  until_shut (Err e) a f k = until_missed M sp u g a f

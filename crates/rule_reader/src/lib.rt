@@ -159,6 +159,5 @@ fn conjunction(words: &Table, items: &mut Items, at: usize) -> Result<usize, Mis
     let x = expect(words, at + 1, kinds::OPEN)?;
     expect(words, x, kinds::OR)?;
     let y = groups(words, items, x)?;
-    let z = expect(words, y, kinds::CLOSE)?;
-    Ok(z)
+    expect(words, y, kinds::CLOSE)
 }
