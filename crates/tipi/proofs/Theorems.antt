@@ -26,6 +26,7 @@ use Rattle.tipi.specs.Told.{answer_of, table_after, Read}
 use Rattle.plan_answer.specs.Answered.{made_of}
 use Rattle.plan_answer.specs.Answered.{Answer}
 use Rattle.plan_answer.specs.Answered.{Plan, Refused}
+use Rattle.std.specs.Prelude.{Ok, Err}
 
 -- ---- one way
 
@@ -65,12 +66,12 @@ pub record PlanGiven (text bindings after : List ℕ) (l : ℕ) : Type 0 where
   pub planned : Planned ws setting
 
 abbrev pub is_plan : Answer → Type 0
-is_plan (Plan l) = Unit {0}
-is_plan (Refused n t p) = ⊥
+is_plan (Ok l) = Unit {0}
+is_plan (Err why) = ⊥
 
 abbrev length_of : Answer → ℕ
-length_of (Plan l) = l
-length_of (Refused n t p) = 0
+length_of (Ok l) = l
+length_of (Err why) = 0
 
 module _ (text bindings before after : List ℕ) (l : ℕ) where
   roomy : (s : Setting) (b : Bool) → leb (length (plan_of s)) (length before) ≡ b

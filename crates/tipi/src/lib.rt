@@ -11,7 +11,7 @@ pub use plan_answer::Answer;
 mod plans;
 
 ghost use Rattle.tape.specs.Tape.{longest};
-ghost use Rattle.std.specs.Prelude.{List, ◌≤◌, length};
+ghost use Rattle.std.specs.Prelude.{◌≡◌, List, ◌≤◌, length};
 ghost use Rattle.language.specs.Limits.{limits};
 ghost use Rattle.language.specs.Words.{Word};
 ghost use Rattle.language.specs.Tree.{Actor};

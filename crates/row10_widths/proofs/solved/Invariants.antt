@@ -1,6 +1,6 @@
 -- `row10_widths::solved` meets its contract: the slots so far hold the wanted widths so far, and all of them are what is solved. Assumes nothing.
 use mathlib.Core.Path.{◌≡◌}
-use Prim.Native.Nat.{◌+◌, ◌≤◌, ◌-◌, ◌*◌}
+use Prim.Native.Nat.{◌+◌, ◌≤◌, ◌*◌}
 use lib.ListN.{length}
 use Rattle.type_nodes.specs.Codes.{env_in, Slotted}
 use Rattle.row10_widths.proofs.solved.Given as goal

@@ -13,26 +13,18 @@ returns-then-text c = rw c.refused.ensures (after_read _ _ (long_actor _ _ _ c.i
 pub returns-then-bindings : goal.returns-then-bindings
 returns-then-bindings c = rw c.refused-then-bindings.ensures (after_read _ _ (long_bindings _ _ _ c.if-text.false c.if-bindings.true))
 
+pub invariant_of-bound : goal.invariant_of-bound
+invariant_of-bound c = record { lined = (bindings_filled c.args.text.now c.args.bindings.now (replicate 96 0) c.read.ensures.answer c.read.ensures.table c.in-Ok.is).room }
+
 pub worded-requires : goal.worded-requires
 worded-requires c =
-    let args = c.args in
-    let if1 = c.if-text in
-    let the-read = c.read in
-    let lines = c.in-Ok in
-    let q = bindings_filled args.text.now args.bindings.now (replicate 96 0) the-read.ensures.answer the-read.ensures.table lines.is in
-    record { text_len_bound = if1.false; binds = (q.bindings, q.binds) }
+    let q = bindings_filled c.args.text.now c.args.bindings.now (replicate 96 0) c.read.ensures.answer c.read.ensures.table c.in-Ok.is in
+    record { text_len_bound = c.if-text.false; binds = (q.bindings, q.binds) }
 
 pub returns-in-Ok : goal.returns-in-Ok
 returns-in-Ok c =
-    let args = c.args in
-    let if1 = c.if-text in
-    let if2 = c.if-bindings in
-    let the-read = c.read in
-    let lines = c.in-Ok in
-    let q = bindings_filled args.text.now args.bindings.now (replicate 96 0) the-read.ensures.answer the-read.ensures.table lines.is in
-    after_read _ _
-    (after_as (bindings_bound _ _ q.bindings if1.false if2.false q.binds.reads)
-    (c.worded.ensures q.bindings q.binds))
+    let q = bindings_filled c.args.text.now c.args.bindings.now (replicate 96 0) c.read.ensures.answer c.read.ensures.table c.in-Ok.is in
+    after_read _ _ (after_as (bindings_bound _ _ q.bindings c.if-text.false c.if-bindings.false q.binds.reads) (c.worded.ensures q.bindings q.binds))
 
 pub returns-in-Err-Wrong : goal.returns-in-Err-Wrong
 returns-in-Err-Wrong c =
