@@ -7,6 +7,9 @@ use item_steps::Tables;
 use plan::{cells_before, memory_count, place, port_count};
 use turn::{Done, turn};
 
+// A plan has no more cells.
+const CELLS: usize = language::Plan::CELLS as usize;
+
 // A table has n numbers for each of k: a product that is too large is no length.
 fn times(len: usize, n: usize, k: usize) -> bool
     ensures { result ≡ eqb len (k * n) }
@@ -46,7 +49,7 @@ pub fn turns(
         after ≡ turns_of plan.now masks.now values.now memory.old outputs.old }
 {
     let n = place(port_count(plan));
-    let mut tables = Tables::new();
+    let mut tables = Tables::<CELLS>::new();
     for (k, mask) in masks.iter().enumerate() {
         // Parts by their ends and no zip of chunks, which would be four iterators, two of them lent to write, for two lines.
         let at = k * n;

@@ -92,9 +92,9 @@ module _ (values memory s : List ℕ) (n : ℕ) (ls os : List ℕ) (qs : List (C
 
 -- ---- what a step leaves
 
-pub left_as : (memory : List ℕ) (n : ℕ) (slots outputs : List ℕ) (t : Tables) (qs : List (Change ℕ)) {s : State}
+pub left_as : (memory : List ℕ) (n : ℕ) (slots outputs : List ℕ) {cells : ℕ} (t : Tables cells) (qs : List (Change ℕ)) {s : State}
     → state (top t.stack n) slots outputs qs ≡ s → Writes memory t qs → Left memory n slots outputs t s
-left_as memory n slots outputs t qs e b =
+left_as memory n slots outputs {cells} t qs e b =
     subst (λ (s : State). Left memory n slots outputs t s) e (record { waits = refl; slot = refl; output = refl; write = b })
 
 -- a value in place of those that an item takes

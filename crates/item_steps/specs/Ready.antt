@@ -9,7 +9,6 @@ use Rattle.plan.specs.declared.Item.TheVariants.{Const, Port, Let, Cell, Range, 
 use Rattle.plan.specs.Waits.{top}
 use Rattle.plan.specs.Items.{takes_of}
 use Rattle.plan.specs.Sound.{waiting}
-use Rattle.language.specs.Limits.{limits}
 use Rattle.item_steps.specs.declared.Tables.{Tables}
 use Rattle.item_steps.specs.Machine.{State, state, cell_of, pick, write_to, exec1}
 
@@ -64,11 +63,11 @@ pub record Buffered (memory next : List ℕ) (changed : List Bool) (clash : Bool
   pub holds : clash ≡ false → take (length memory) next ≡ written qs memory
 
 -- the tables hold some writes
-abbrev pub Writes : (memory : List ℕ) → Tables → List (Change ℕ) → Type 0
-Writes memory t qs = Buffered memory t.next t.changed t.clash qs
+abbrev pub Writes : (memory : List ℕ) → {cells : ℕ} → Tables cells → List (Change ℕ) → Type 0
+Writes memory {cells} t qs = Buffered memory t.next t.changed t.clash qs
 
 -- the tables that a step leaves are a state, with some writes
-pub record Left (memory : List ℕ) (n : ℕ) (slots outputs : List ℕ) (t : Tables) (s : State) : Type 0 where
+pub record Left (memory : List ℕ) (n : ℕ) (slots outputs : List ℕ) {cells : ℕ} (t : Tables cells) (s : State) : Type 0 where
   pub waits : top t.stack n ≡ s.waits
   pub slot : slots ≡ s.slots
   pub output : outputs ≡ s.outputs
@@ -80,9 +79,9 @@ left_by values memory slots stack n i =
     value_of values memory slots (get_or (top stack n) 2 0) (get_or (top stack n) 1 0) (get_or (top stack n) 0 0) i ∷ drop (takes_of i) (top stack n)
 
 -- where the tables held some writes, they hold one more: to the cell a of the size from f on, if it exists
-abbrev pub Wrote : (f size a v : ℕ) (before after : Tables) → Type 0
-Wrote f size a v before after =
-    (memory : List ℕ) (qs : List (Change ℕ)) → f + size ≤ length memory → length memory ≤ limits.cells → Writes memory before qs → Writes memory after (write_to f size a v qs)
+abbrev pub Wrote : (f size a v : ℕ) {cells : ℕ} (before after : Tables cells) → Type 0
+Wrote f size a v {cells} before after =
+    (memory : List ℕ) (qs : List (Change ℕ)) → f + size ≤ length memory → length memory ≤ cells → Writes memory before qs → Writes memory after (write_to f size a v qs)
 
 -- whatever writes the tables held, they then hold what a run makes of them
 abbrev pub Carried : (held : List (Change ℕ) → Type 0) (run : List (Change ℕ) → State) (left : State → Type 0) → Type 0

@@ -4,32 +4,31 @@
 #![tactic(auto)]
 
 ghost use Rattle.std.specs.Prelude.{◌≡◌, false, List, [], ◌∷◌, ℕ, ◌+◌, ◌-◌, ◌≤◌, ◌<◌, eqb, length, get_or, set, drop};
-ghost use Rattle.language.specs.Limits.{limits};
 ghost use Rattle.plan.specs.Sound.{waiting};
 ghost use Rattle.plan.specs.Waits.{top};
 ghost use Rattle.plan.specs.Items.{takes_of, acts_of};
 ghost use Rattle.item_steps.specs.Machine.{cell_of};
+ghost use Rattle.item_steps.specs.Tables.{empty_tables};
 ghost use Rattle.item_steps.specs.Ready.{Ready, Writes, Left, left_by, Wrote, Carried, item_run};
 
 use plan::{Item, WAITS, constant, place};
 use ranges::{beside, chosen, copies, range};
 use value::{binary, unary};
 
-const CELLS: usize = language::Plan::CELLS as usize;
-
 // What a cycle works in, where nobody sees: the values that wait, each cell as it will be, whether it is written, and whether one is written twice.
+// The memory has at most CELLS cells.
 #[derive(Drop)]
-pub struct Tables {
+pub struct Tables<const CELLS: usize> {
     pub stack: [u64; WAITS],
     pub next: [u64; CELLS],
     pub changed: [bool; CELLS],
     pub clash: bool,
 }
 
-impl Tables {
+impl<const CELLS: usize> Tables<CELLS> {
     // No number of them counts before `begin`.
-    pub fn new() -> Tables
-        ensures { result.clash ≡ false }
+    pub fn new() -> Self
+        ensures { result ≡ empty_tables CELLS }
     {
         Tables {
             stack: [0; WAITS],
@@ -41,7 +40,7 @@ impl Tables {
 
     // Before the first write the cells will be as they are.
     pub fn begin(&mut self, memory: &[u64])
-        requires { length memory.now ≤ limits.cells }
+        requires { length memory.now ≤ CELLS }
         ensures { Writes memory.now self.new [] }
     {
         let cells = memory.len();
@@ -52,7 +51,7 @@ impl Tables {
 
     // A write waits in the table of cells; a second one to the same cell is a clash.
     fn write(&mut self, f: u32, size: u32, a: u64, v: u64)
-        requires { f + size ≤ limits.cells }
+        requires { f + size ≤ CELLS }
         ensures after { Wrote f size a v self.old self.new }
         ensures stack { self.new.stack ≡ self.old.stack }
     {
@@ -161,16 +160,16 @@ fn leave(
 }
 
 // One item: how many values wait then. What it asks is known: see `Ready`.
-pub fn step(
+pub fn step<const CELLS: usize>(
     i: Item,
     values: &[u64],
     memory: &[u64],
     slots: &mut [u64],
     outputs: &mut [u64],
-    tables: &mut Tables,
+    tables: &mut Tables<CELLS>,
     n: usize,
 ) -> usize
-    requires n_le_waiting { (n ≤ waiting) × (length memory.now ≤ limits.cells) }
+    requires n_le_waiting { (n ≤ waiting) × (length memory.now ≤ CELLS) }
     requires ready { Ready values.now memory.now tables.old.stack n slots.old outputs.old i }
     ensures waits_le_waiting { result ≤ waiting }
     ensures fact { let held = Writes memory.now tables.old in

@@ -36,8 +36,8 @@ pub rules_done : (p values memory fired : List ℕ) (j : ℕ) (s : State) → le
 unfolding exec_rules
 rules_done p values memory fired j s h = rw (drop_of_length-le fired h)
 
-pub ran_as : {memory outputs : List ℕ} {t : Tables} {r s : State} → Ran memory outputs t r → r ≡ s → Ran memory outputs t s
-ran_as {memory} {outputs} {t} l e = subst (λ (x : State). Ran memory outputs t x) e l
+pub ran_as : {memory outputs : List ℕ} {cells : ℕ} {t : Tables cells} {r s : State} → Ran memory outputs t r → r ≡ s → Ran memory outputs t s
+ran_as {memory} {outputs} {cells} {t} l e = subst (λ (x : State). Ran memory outputs t x) e l
 
 -- ---- the parts of the tables that the rules are run over
 
@@ -69,7 +69,7 @@ module _ (os : List ℕ) (n m k : ℕ) (z : os ≡ zeros k) (e : n ≡ m) (h : m
 
 -- what the rules leave in the part of the outputs that the plan has
 module _ (p values memory fired os : List ℕ) (g n : ℕ) (d : g ≡ group_count p) (e : n ≡ port_count p) (h : port_count p ≤ 16) (z : os ≡ zeros 16) where
-  pub acted : (ys rest : List ℕ) {t : Tables} → length ys ≡ length (take n os)
+  pub acted : (ys rest : List ℕ) {cells : ℕ} {t : Tables cells} → length ys ≡ length (take n os)
       → Ran memory ys t (exec_rules p values memory (take g fired) (state [] [] (take n os) []))
       → Ran memory (take (port_count p) (ys ++ rest)) t (fired_run p values memory (take (group_count p) fired))
   acted ys rest l r =

@@ -45,12 +45,12 @@ module _ (p : List ℕ) (present taken : ℕ) (values memory : List ℕ) (g : Co
       (good_next (rules_of p present taken) p at items i f.0 f.1 f.2 h l f.3) f.4 (record { fit = f.5.fit; slot = f.5.slot; outs = f.5.outs })
 
 -- the tables are the state
-pub left_state : {memory : List ℕ} {n : ℕ} {slots outputs : List ℕ} {t : Tables} {s : State} → Left memory n slots outputs t s → state (top t.stack n) slots outputs s.writes ≡ s
+pub left_state : {memory : List ℕ} {n : ℕ} {slots outputs : List ℕ} {cells : ℕ} {t : Tables cells} {s : State} → Left memory n slots outputs t s → state (top t.stack n) slots outputs s.writes ≡ s
 left_state l = rw (l.waits, l.slot, l.output)
 
-pub ready_of : (p : List ℕ) (present taken : ℕ) (values memory : List ℕ) (is : List Item) (i : Item) (n : ℕ) (slots outputs : List ℕ) {t : Tables} {s : State}
+pub ready_of : (p : List ℕ) (present taken : ℕ) (values memory : List ℕ) (is : List Item) (i : Item) (n : ℕ) (slots outputs : List ℕ) {cells : ℕ} {t : Tables cells} {s : State}
     → n ≤ 256 → Left memory n slots outputs t s → Found p present taken values memory is i s → Ready values memory t.stack n slots outputs i
-ready_of p present taken values memory is i n slots outputs {t} {s} h l f =
+ready_of p present taken values memory is i n slots outputs {cells} {t} {s} h l f =
     let e : length s.waits ≡ n = sym (ap length l.waits) ∙ length_top t.stack n in
     record {
       there = rw e at f.there;
@@ -63,15 +63,15 @@ pub not_bad : {values memory stack : List ℕ} {n : ℕ} {slots outputs : List �
 not_bad r e = rw e at r.asks
 
 -- the i-th item finds what it asks
-pub turn_ready : (p : List ℕ) (present taken : ℕ) (values memory : List ℕ) → CodeGiven p present values memory → (at items i n : ℕ) (slots outputs : List ℕ) {t : Tables} {s : State}
+pub turn_ready : (p : List ℕ) (present taken : ℕ) (values memory : List ℕ) → CodeGiven p present values memory → (at items i n : ℕ) (slots outputs : List ℕ) {cells : ℕ} {t : Tables cells} {s : State}
     → n ≤ 256 → i < items → at + 4 * (items - i) ≤ length p → Left memory n slots outputs t s → Safe p present taken (rest p at items i) s → Ready values memory t.stack n slots outputs (item_at p at)
-turn_ready p present taken values memory g at items i n slots outputs {t} {s} h k z l f =
+turn_ready p present taken values memory g at items i n slots outputs {cells} {t} {s} h k z l f =
     ready_of p present taken values memory (rest p (at + 4) items (i + 1)) (item_at p at) n slots outputs h l (turn_found p present taken values memory g at items i k z s f)
 
-pub left_turn : {memory : List ℕ} {n : ℕ} {slots outputs : List ℕ} {t : Tables} (values : List ℕ) {j k : Item} {r s : State}
+pub left_turn : {memory : List ℕ} {n : ℕ} {slots outputs : List ℕ} {cells : ℕ} {t : Tables cells} (values : List ℕ) {j k : Item} {r s : State}
     → j ≡ k → r ≡ s → Left memory n slots outputs t (exec1 values memory j r) → Left memory n slots outputs t (exec1 values memory k s)
 left_turn values d e l = rw (← d, ← e) l
 
-pub ran_of : {memory : List ℕ} {n : ℕ} {slots outputs : List ℕ} {t : Tables} {r s : State} → Left memory n slots outputs t r → r ≡ s → Ran memory outputs t s
-ran_of {memory} {n} {slots} {outputs} {t} l e =
+pub ran_of : {memory : List ℕ} {n : ℕ} {slots outputs : List ℕ} {cells : ℕ} {t : Tables cells} {r s : State} → Left memory n slots outputs t r → r ≡ s → Ran memory outputs t s
+ran_of {memory} {n} {slots} {outputs} {cells} {t} l e =
     subst (λ (x : State). Ran memory outputs t x) e (record { output = l.output; write = l.write })

@@ -26,5 +26,5 @@ abbrev pub fired_run : (p values memory fired : List ℕ) → State
 fired_run p values memory fired = exec_rules p values memory fired (state [] [] (replicate (port_count p) 0) [])
 
 -- what they leave: the outputs of the plan's ports, and the cells
-abbrev pub FiredRan : (p values memory fired outputs : List ℕ) → Tables → Type 0
-FiredRan p values memory fired outputs t = Ran memory (take (port_count p) outputs) t (fired_run p values memory (take (group_count p) fired))
+abbrev pub FiredRan : (p values memory fired outputs : List ℕ) {cells : ℕ} → Tables cells → Type 0
+FiredRan p values memory fired outputs {cells} t = Ran memory (take (port_count p) outputs) t (fired_run p values memory (take (group_count p) fired))

@@ -42,13 +42,13 @@ abbrev pub Safe : List ℕ → ℕ → ℕ → List Item → State → Type 0
 Safe p present taken is s = (ws : List ℕ) × (lw : List ℕ) × (d : ℕ) × Good (rules_of p present taken) is (check ws lw d) × (length lw ≡ 48) × StateHeld p ws lw s
 
 -- what a rule's run leaves: outputs and writes
-pub record Ran (memory outputs : List ℕ) (t : Tables) (s : State) : Type 0 where
+pub record Ran (memory outputs : List ℕ) {cells : ℕ} (t : Tables cells) (s : State) : Type 0 where
   pub output : outputs ≡ s.outputs
   pub write : Writes memory t s.writes
 
 -- the tables hold some writes, whatever they are
-abbrev pub Held : (memory : List ℕ) → Tables → Type 0
-Held memory t = (qs : List (Change ℕ)) × Writes memory t qs
+abbrev pub Held : (memory : List ℕ) {cells : ℕ} → Tables cells → Type 0
+Held memory {cells} t = (qs : List (Change ℕ)) × Writes memory t qs
 
 -- some items from a place of the plan on
 abbrev pub items_from : (p : List ℕ) (from items : ℕ) → List Item

@@ -1,6 +1,5 @@
 // The code of a sound rule, item by item, and the rules that fire, one after the other.
 ghost use Rattle.std.specs.Prelude.{◌≡◌, [], ℕ, ◌≤◌, ◌<◌, length, get_or};
-ghost use Rattle.language.specs.Limits.{limits};
 ghost use Rattle.plan.specs.Layout.{port_count};
 ghost use Rattle.item_steps.specs.Machine.{state, exec_rules};
 ghost use Rattle.machine.specs.Fires.{Fires, rule_run};
@@ -11,18 +10,18 @@ use item_steps::{Tables, step};
 use plan::{SLOTS, code_at, fetch_sound, place};
 
 // Some items from a place of the plan on.
-fn run_items(
+fn run_items<const CELLS: usize>(
     plan: &[u32],
     values: &[u64],
     memory: &[u64],
     outputs: &mut [u64],
     slots: &mut [u64],
-    tables: &mut Tables,
+    tables: &mut Tables<CELLS>,
     from: usize,
     items: usize,
 )
     requires safe_items { SafeItems plan.now values.now memory.now slots.old outputs.old from items }
-    requires tables { (length memory.now ≤ limits.cells) × Held memory.now tables.old }
+    requires tables { (length memory.now ≤ CELLS) × Held memory.now tables.old }
     ensures { let held = Writes memory.now tables.old in
         let run = items_run plan.now values.now memory.now slots.old outputs.old from items in
         let left = Ran memory.now outputs.new tables.new in
@@ -36,16 +35,16 @@ fn run_items(
 }
 
 // A rule's code, with slots of its own.
-fn run_rule(
+fn run_rule<const CELLS: usize>(
     plan: &[u32],
     r: u32,
     values: &[u64],
     memory: &[u64],
     outputs: &mut [u64],
-    tables: &mut Tables,
+    tables: &mut Tables<CELLS>,
 )
     requires fires { Fires plan.now values.now memory.now r × (length outputs.old ≡ port_count plan.now) }
-    requires tables { (length memory.now ≤ limits.cells) × Held memory.now tables.old }
+    requires tables { (length memory.now ≤ CELLS) × Held memory.now tables.old }
     ensures { let held = Writes memory.now tables.old in
         let run = rule_run plan.now values.now memory.now r outputs.old in
         let left = Ran memory.now outputs.new tables.new in
@@ -60,17 +59,17 @@ fn run_rule(
 }
 
 // The rules that fire, one after the other.
-pub fn run_rules(
+pub fn run_rules<const CELLS: usize>(
     plan: &[u32],
     fired: &[u32],
     values: &[u64],
     memory: &[u64],
     outputs: &mut [u64],
-    tables: &mut Tables,
+    tables: &mut Tables<CELLS>,
 )
     requires by_index { (j : ℕ) → j < length fired.now → Fires plan.now values.now memory.now (get_or fired.now j 0) }
     requires outputs_len { length outputs.old ≡ port_count plan.now }
-    requires tables { (length memory.now ≤ limits.cells) × Writes memory.now tables.old [] }
+    requires tables { (length memory.now ≤ CELLS) × Writes memory.now tables.old [] }
     ensures { let before = state [] [] outputs.old [] in
         let run = exec_rules plan.now values.now memory.now fired.now before in
         Ran memory.now outputs.new tables.new run }

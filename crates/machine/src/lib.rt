@@ -15,17 +15,17 @@ use item_steps::Tables;
 use plan::{group_count, place, port_count};
 
 // The rules that fire, one of each group, over cells and outputs that nobody sees yet.
-pub fn act(
+pub fn act<const CELLS: usize>(
     plan: &[u32],
     fired: &[u32],
     values: &[u64],
     memory: &[u64],
     outputs: &mut [u64],
-    tables: &mut Tables,
+    tables: &mut Tables<CELLS>,
 )
     requires plan_bound { (port_count plan.now ≤ limits.ports) × (group_count plan.now ≤ length fired.now) }
     requires outputs_value { outputs.old ≡ replicate limits.ports 0 }
-    requires tables { length memory.now ≤ limits.cells }
+    requires tables { length memory.now ≤ CELLS }
     requires by_index { (j : ℕ) → j < group_count plan.now → Fires plan.now values.now memory.now (get_or fired.now j 0) }
     ensures { FiredRan plan.now values.now memory.now fired.now outputs.new tables.new }
 {

@@ -68,14 +68,14 @@ module _ (p : List ℕ) (mask : ℕ) (values memory outs : List ℕ) where
         | false ↦ record { answer = accepted; count = ones_of 32 mask; outputs = s.outputs; memory = written s.writes memory }
       ]
 
-  ends_25 : {held : List ℕ} {t : Tables} {s : State} → Ran memory held t s → t.clash ≡ true → ends p mask memory outs s ≡ refused_by p (number_of Clash) memory outs
+  ends_25 : {held : List ℕ} {cells : ℕ} {t : Tables cells} {s : State} → Ran memory held t s → t.clash ≡ true → ends p mask memory outs s ≡ refused_by p (number_of Clash) memory outs
   unfolding ends by_clash
-  ends_25 {held} {t} {s} r e = ap (by_clash s) (sym r.write.clashes ∙ e)
+  ends_25 {held} {cells} {t} {s} r e = ap (by_clash s) (sym r.write.clashes ∙ e)
 
-  ends_0 : {held : List ℕ} {t : Tables} {s : State} → Ran memory held t s → t.clash ≡ false
+  ends_0 : {held : List ℕ} {cells : ℕ} {t : Tables cells} {s : State} → Ran memory held t s → t.clash ≡ false
       → ends p mask memory outs s ≡ outcome accepted (ones_of 32 mask) held (take (length memory) t.next)
   unfolding ends by_clash
-  ends_0 {held} {t} {s} r e =
+  ends_0 {held} {cells} {t} {s} r e =
       ap (by_clash s) (sym r.write.clashes ∙ e)
       ∙ ap₂ (λ (o m : List ℕ). outcome accepted (ones_of 32 mask) o m) (sym r.output) (sym (r.write.holds e))
 
@@ -102,7 +102,7 @@ module _ (p : List ℕ) (mask : ℕ) (values memory outs : List ℕ) where
       unfolding refused_by
       turn_refused a e = sym (as_judged ∙ ap by_groups (sym e))
 
-      module _ (l : List ℕ) (e : fired l ≡ judged p mask values memory) {held : List ℕ} {t : Tables} (r : Ran memory held t (exec_rules p values memory l start)) where
+      module _ (l : List ℕ) (e : fired l ≡ judged p mask values memory) {held : List ℕ} {cells : ℕ} {t : Tables cells} (r : Ran memory held t (exec_rules p values memory l start)) where
         pub turn_clash : t.clash ≡ true → outcome (number_of Clash) 0 outs memory ≡ cycle_of p mask values memory outs
         unfolding refused_by
         turn_clash z = sym (as_judged ∙ ap by_groups (sym e) ∙ ends_25 r z)

@@ -4,7 +4,6 @@
 #![tactic(auto)]
 
 ghost use Rattle.std.specs.Prelude.{◌≡◌, true, ◌≤◌, length, take};
-ghost use Rattle.language.specs.Limits.{limits};
 ghost use Rattle.plan.specs.Sound.{sound_of};
 ghost use Rattle.judged.specs.Tests.{counts as tests_counts};
 ghost use Rattle.turn.specs.Cycle.{cycle_of};
@@ -53,16 +52,17 @@ fn commit(memory: &mut [u64], next: &[u64], outputs: &mut [u64], held: &[u64])
 }
 
 // Nothing is changed before the last test has passed.
-pub fn turn(
+pub fn turn<const CELLS: usize>(
     plan: &[u32],
     mask: u32,
     values: &[u64],
     memory: &mut [u64],
     outputs: &mut [u64],
-    tables: &mut Tables,
+    tables: &mut Tables<CELLS>,
 ) -> Result<u32, Refusal>
     requires plan_value { sound_of plan.now ≡ true }
     requires outputs_value { tests_counts plan.now values.now memory.old outputs.old ≡ true }
+    requires tables { length memory.old ≤ CELLS }
     ensures { ended result outputs.new memory.new
         ≡ cycle_of plan.now mask values.now memory.old outputs.old }
 {

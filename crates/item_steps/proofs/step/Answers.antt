@@ -6,39 +6,39 @@ use Rattle.plan.proofs.Arms.{leaves}
 use Rattle.item_steps.proofs.step.Goals as goal
 
 pub store-requires : goal.store-requires
-store-requires c =
+store-requires g c =
     (rw c.in-Keep.is at c.requires.ready.asks, rw c.in-Keep.is at c.requires.ready.there, omega (arith, c.requires.n_le_waiting.0))
 
 pub store-requires-in-Assign : goal.store-requires-in-Assign
-store-requires-in-Assign c =
+store-requires-in-Assign g c =
     (rw c.in-Assign.is at c.requires.ready.asks, rw c.in-Assign.is at c.requires.ready.there, omega (arith, c.requires.n_le_waiting.0))
 
 pub last-x-requires : goal.last-x-requires
-last-x-requires c =
+last-x-requires g c =
     let h = rw c.in-Write.is at c.requires.ready.there in
     (omega (arith, h), omega (arith, c.requires.n_le_waiting.0))
 
 pub last-y-requires : goal.last-y-requires
-last-y-requires c =
+last-y-requires g c =
     let h = rw c.in-Write.is at c.requires.ready.there in
     (omega (arith, h), omega (arith, c.requires.n_le_waiting.0))
 
 pub overflow_sub-result : goal.overflow_sub-result
-overflow_sub-result c =
+overflow_sub-result g c =
     rw c.in-Write.is at c.requires.ready.there
 
 pub write-requires : goal.write-requires
-write-requires c =
+write-requires g c =
     let h = rw c.in-Write.is at c.requires.ready.asks in
     omega (arith, h, c.requires.n_le_waiting.1)
 
 pub leave-requires : goal.leave-requires
-leave-requires c =
+leave-requires g c =
     let args = c.args in
     (c.requires.n_le_waiting.0, leaves args.i c.in_default.not-Keep c.in_default.not-Assign c.in_default.not-Write, (args.outputs.now, c.requires.ready))
 
 pub returns-in-Keep : goal.returns-in-Keep
-returns-in-Keep c =
+returns-in-Keep g c =
     let args = c.args in record {
       waits_le_waiting = rw c.store.ensures.0 (omega (arith, c.requires.n_le_waiting.0));
       fact = λ qs b. left_as _ _ _ _ _ qs
@@ -47,7 +47,7 @@ returns-in-Keep c =
     }
 
 pub returns-in-Assign : goal.returns-in-Assign
-returns-in-Assign c =
+returns-in-Assign g c =
     let args = c.args in record {
       waits_le_waiting = rw c.store-in-Assign.ensures.0 (omega (arith, c.requires.n_le_waiting.0));
       fact = λ qs b. left_as _ _ _ _ _ qs
@@ -56,7 +56,7 @@ returns-in-Assign c =
     }
 
 pub returns-in-Write : goal.returns-in-Write
-returns-in-Write c =
+returns-in-Write g c =
     let args = c.args in
     let h = rw c.in-Write.is at c.requires.ready.asks in record {
       waits_le_waiting = omega arith;
@@ -65,7 +65,7 @@ returns-in-Write c =
     }
 
 pub returns-in_default : goal.returns-in_default
-returns-in_default c =
+returns-in_default g c =
     let args = c.args in record {
       waits_le_waiting = c.leave.ensures.upper_bound;
       fact = λ qs b. left_as _ _ _ _ _ qs (value_left args.values.now args.memory.now args.tables.now.stack _ args.n c.leave.result args.slots.now

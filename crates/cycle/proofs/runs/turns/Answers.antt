@@ -5,8 +5,11 @@ use mathlib.Core.Path.{◌≡◌, refl, sym, ap, ap₂, ◌∙◌, subst}
 use mathlib.Core.List.{◌++◌}
 use lib.ListN.{length, set, take, drop, length-set}
 use Rattle.plan.specs.Layout.{port_count}
+use Rattle.judged.proofs.Fired.{sound_sections}
 use Rattle.turn.specs.Turn.{outcome}
+use Rattle.turn.proofs.Outcomes.{cells_few}
 use Rattle.cycle.proofs.Night.{Runs, runs_start, next_at, runs_next, runs_end, tables_told, part_ports, part_counts, room_for}
+use borrow.Author.Rules.{rules}
 use Rattle.cycle.proofs.runs.turns.Goals as goal
 
 pub loop-k-init : goal.loop-k-init
@@ -29,15 +32,24 @@ overflow_add-end c = let room = c.loop-k.invariant.room c.loop-k-test.true in om
 pub offset_bounds-values-at : goal.offset_bounds-values-at
 offset_bounds-values-at c = let room = c.loop-k.invariant.room c.loop-k-test.true in omega (arith, room.0)
 
-pub turn-requires-clause-outputs_value : goal.turn-requires-clause-outputs_value
-turn-requires-clause-outputs_value c =
+-- first that memory has room for a value of the type of the tables, then each clause
+pub turn-requires : goal.turn-requires
+turn-requires c =
     let args = c.args in
     let loop = c.loop-k in
     let p = args.plan.now in
     let e = c.place-n.ensures.0 ∙ c.port_count.ensures in
     let room = loop.invariant.room c.loop-k-test.true in
-    let t = tables_told p args.masks.now args.values.now args.memory.now args.outputs.now args.answers.now c.requires.answers_value in
-    part_counts p args.values.now loop.memory loop.outputs _ c.place-n.result e (omega (arith, room.0)) (omega (arith, room.1)) (loop.auto.memory ∙ t.3)
+    let t = tables_told p args.masks.now args.values.now args.memory.now args.outputs.now args.answers.now c.requires.answers_value in (
+      search rules,
+      (
+        c.requires.plan_value,
+        (
+          part_counts p args.values.now loop.memory loop.outputs _ c.place-n.result e (omega (arith, room.0)) (omega (arith, room.1)) (loop.auto.memory ∙ t.3),
+          omega (arith, loop.auto.memory, t.3, cells_few p (sound_sections p c.requires.plan_value).0),
+        ),
+      ),
+    )
 
 pub bounds-answers-q : goal.bounds-answers-q
 bounds-answers-q c = let room = c.loop-k.invariant.room c.loop-k-test.true in omega (arith, room.2)

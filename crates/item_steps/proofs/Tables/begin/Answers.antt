@@ -9,7 +9,7 @@ use Rattle.item_steps.proofs.Writes.{prepared}
 use Rattle.item_steps.proofs.Tables.begin.Goals as goal
 
 pub returns : goal.returns
-returns c =
+returns g c =
     let memory = c.args.memory.now in
     let changed = c.args.self.now.changed in
     let n : length (take (length memory) changed) ≡ length memory = length-take-le (length memory) changed (omega arith) in

@@ -5,12 +5,12 @@ use Rattle.item_steps.proofs.Writes.{write_past, write_in, buffered_clash, buffe
 use Rattle.item_steps.proofs.Tables.write.Goals as goal
 
 pub returns-then-a-from-clause-after : goal.returns-then-a-from-clause-after
-returns-then-a-from-clause-after c =
+returns-then-a-from-clause-after g c =
     let args = c.args in
     λ memory qs h j b. rw (write_past args.f args.size args.a args.v qs (rw c.from.ensures at c.if-a-from.true)) b
 
 pub returns-then-self-at-clause-after : goal.returns-then-self-at-clause-after
-returns-then-self-at-clause-after c =
+returns-then-self-at-clause-after g c =
     let args = c.args in
     let t = args.self.now in
     λ memory qs h j b. let l = rw c.from.ensures at c.if-a-from.false in
@@ -18,7 +18,7 @@ returns-then-self-at-clause-after c =
     (omega arith) b (rw c.from-2.ensures at c.if-self-at.true))
 
 pub returns-clause-after : goal.returns-clause-after
-returns-clause-after c =
+returns-clause-after g c =
     let args = c.args in
     let t = args.self.now in
     λ memory qs h j b. let l = rw c.from.ensures at c.if-a-from.false in

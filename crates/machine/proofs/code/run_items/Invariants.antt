@@ -10,7 +10,7 @@ use Rattle.machine.specs.Safety.{CodeGiven, Safe, items_from, items_run}
 use Rattle.machine.proofs.code.run_items.Given as goal
 
 abbrev pub invariant-loop-i : goal.invariant-loop-i
-invariant-loop-i l = record {
+invariant-loop-i g l = record {
   few : l.n ≤ 256;
   run : (present taken : ℕ) → Safe l.plan present taken (items_from l.plan l.from l.items) (state [] l.initial.slots l.initial.outputs [])
       → CodeGiven l.plan present l.values l.memory → (qs : List (Change ℕ)) → Writes l.memory l.initial.tables qs

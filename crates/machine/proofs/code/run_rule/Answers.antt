@@ -15,27 +15,31 @@ use borrow.Author.Rules.{rules}
 use Rattle.machine.proofs.code.run_rule.Goals as goal
 
 pub code_at-code-requires : goal.code_at-code-requires
-code_at-code-requires c = let h = c.requires.fires.0.inside in search rules
+code_at-code-requires g c = let h = c.requires.fires.0.inside in search rules
 
+-- first that memory has room for a value of the type of the tables, then each clause
 pub run_items-requires : goal.run_items-requires
-run_items-requires c =
+run_items-requires g c =
     let args = c.args in
     let e : take (4 * (c.place-items.result / 4)) (drop c.code_at-code.result.from args.plan.now) ≡ code_at args.plan.now args.r = code_found args.plan.now args.r
-    c.code_at-code.result.from (c.place-items.result / 4) c.requires.fires.0.whole c.code_at-code.ensures.0 (ap (λ (a : ℕ). a / 4) (c.place-items.ensures.0 ∙ c.code_at-code.ensures.1)) in record {
-      safe_items = (
-        omega (arith, c.requires.fires.0.inside, c.place-items.ensures.0, c.code_at-code.ensures.1, c.code_at-code.ensures.0),
-        present_at args.plan.now args.r,
-        c.requires.fires.0.taken,
-        c.requires.fires.0.given,
-        subst (λ (l : List ℕ). Safe args.plan.now (present_at args.plan.now args.r) c.requires.fires.0.taken (decode_all l) (state [] (replicate 48 0) args.outputs.now []))
-            (sym e) (fires_safe args.plan.now args.values.now args.memory.now args.r args.outputs.now c.requires.fires.0 c.requires.fires.1),
-      );
-      tables = c.requires.tables;
-    }
+    c.code_at-code.result.from (c.place-items.result / 4) c.requires.fires.0.whole c.code_at-code.ensures.0 (ap (λ (a : ℕ). a / 4) (c.place-items.ensures.0 ∙ c.code_at-code.ensures.1)) in (
+      search rules,
+      (
+        (
+          omega (arith, c.requires.fires.0.inside, c.place-items.ensures.0, c.code_at-code.ensures.1, c.code_at-code.ensures.0),
+          present_at args.plan.now args.r,
+          c.requires.fires.0.taken,
+          c.requires.fires.0.given,
+          subst (λ (l : List ℕ). Safe args.plan.now (present_at args.plan.now args.r) c.requires.fires.0.taken (decode_all l) (state [] (replicate 48 0) args.outputs.now []))
+              (sym e) (fires_safe args.plan.now args.values.now args.memory.now args.r args.outputs.now c.requires.fires.0 c.requires.fires.1),
+        ),
+        c.requires.tables,
+      ),
+    )
 
 pub returns : goal.returns
 unfolding rule_run
-returns c =
+returns g c =
     let args = c.args in
     let e : take (4 * (c.place-items.result / 4)) (drop c.code_at-code.result.from args.plan.now) ≡ code_at args.plan.now args.r = code_found args.plan.now args.r
     c.code_at-code.result.from (c.place-items.result / 4) c.requires.fires.0.whole c.code_at-code.ensures.0 (ap (λ (a : ℕ). a / 4) (c.place-items.ensures.0 ∙ c.code_at-code.ensures.1)) in
