@@ -5,25 +5,22 @@ use mathlib.Core.List.{List, [], ◌∷◌, ◌++◌}
 use mathlib.Core.Option.{Option, none, some}
 use Prim.Native.Nat.{ℕ, zero, suc, ◌+◌}
 use native.Mathlib.Omega.{arith}
-use mir.Val.{bool_byte}
 use lib.Dec.{eqb}
 use lib.ListN.{drop}
 use borrow.Author.Tests.{eq-eqb, ne_eqb}
 use Rattle.language.specs.Text.{Name}
 use Rattle.language.specs.Words.{Word, Numeral}
-use Rattle.language.specs.Tree.{Declared, untyped, Size, one, cells, Memory}
+use Rattle.language.specs.Tree.{Declared, Size, one, cells, Memory}
 use Rattle.language.specs.Reader.{Res, ok, bad, bind, on, is_num, is_name, expect, until, many_p, commas_p}
-use Rattle.language.specs.Parser.{type_p, is_way, is_store, port_p, memory_p, name_p}
+use Rattle.language.specs.Parser.{is_way, is_store, port_p, memory_p, name_p}
 use Rattle.signs.specs.Kinds.{spelled_words}
 use Rattle.words.specs.Table.{word_of}
-use Rattle.tape.specs.Tape.{one_if}
 use Rattle.readers.specs.Marks.{kind_at, numeral_at, name_at, Marked, fixed_of}
 use Rattle.readers.specs.Meets.{Out, Finds, Lacks, On, Agrees, read, fault}
 use Rattle.head_reader.specs.Heads.{head_p}
 use Rattle.head_reader.specs.Declares.{port_name_p, memory_name_p, size_p, declarations_p}
 use Rattle.readers.proofs.Laws.{on_more, on_as}
 use Rattle.readers.proofs.Spells.{word, word_found, on_miss, num_miss, name_miss}
-use Rattle.type_reader.proofs.Grammar.{declared_none, declared_some}
 use Rattle.readers.proofs.Lists.{Begins, Misses, some_begins, some_misses}
 use Rattle.readers.proofs.Fixed.{s_input, s_output, s_reg, s_ff}
 
@@ -74,13 +71,6 @@ module _ {w : List ℕ} {x k : ℕ} (e : k ≡ kind_at w x) where
   pub misses_store : (k ≡ 6 → ⊥) → (k ≡ 7 → ⊥) → Misses is_store w x
   misses_store h₁ h₂ = record { fails = λ text p l v. store_miss text p l v _ (λ q. h₁ (e ∙ q)) (λ q. h₂ (e ∙ q)) }
 
--- ---- what a port's value holds
-
-pub one_byte : (i : Bool) → one_if i ≡ bool_byte i
-unfolding one_if
-one_byte true = refl
-one_byte false = refl
-
 -- ---- the readers
 
 -- a size, and then the `;`
@@ -104,22 +94,6 @@ module _ {text : List ℕ} {ms : List (List ℕ)} {w : List ℕ} {ws : List Word
     off_name h = on_miss M is_name g d at (λ p l v. name_miss text p l v _ h.kind) ∙ ap (λ (y : ℕ). d (drop y ws)) (sym h.stays)
 
   module _ (f : ℕ) where
-    pub port_untyped : (i : Bool) → (kind_at w at ≡ 48 → ⊥) → port_p f i (drop at ws) ≡ port_name_p i untyped (drop at ws)
-    unfolding port_p port_name_p
-    port_untyped i h = declared_none M f at (λ t x. port_name_p i t x) h
-
-    pub port_typed : (i : Bool) (y : ℕ) → kind_at w at ≡ 48 → y ≡ at + 1 → port_p f i (drop at ws) ≡ until (type_p f (drop y ws)) ">" (λ t q x. port_name_p i (Declared.typed t) x)
-    unfolding port_p port_name_p
-    port_typed i y e q = declared_some M f at (λ t x. port_name_p i t x) e ∙ ap (λ (y : ℕ). until (type_p f (drop y ws)) ">" (λ t q x. port_name_p i (Declared.typed t) x)) (sym q)
-
-    pub memory_untyped : (i : Bool) → (kind_at w at ≡ 48 → ⊥) → memory_p f i (drop at ws) ≡ memory_name_p untyped (drop at ws)
-    unfolding memory_p memory_name_p
-    memory_untyped i h = declared_none M f at (λ t x. memory_name_p t x) h
-
-    pub memory_typed : (i : Bool) (y : ℕ) → kind_at w at ≡ 48 → y ≡ at + 1 → memory_p f i (drop at ws) ≡ until (type_p f (drop y ws)) ">" (λ t q x. memory_name_p (Declared.typed t) x)
-    unfolding memory_p memory_name_p
-    memory_typed i y e q = declared_some M f at (λ t x. memory_name_p t x) e ∙ ap (λ (y : ℕ). until (type_p f (drop y ws)) ">" (λ t q x. memory_name_p (Declared.typed t) x)) (sym q)
-
     pub signed_name : {y : ℕ} → Finds w at 2 y → name_p f (drop at ws) ≡ ok (name_at text w at) (drop y ws)
     unfolding name_p
     signed_name e = on_name _ _ e

@@ -11,12 +11,10 @@ ghost use Rattle.head_reader.specs.Declares.{IsDeclarations, IsMemoryName, IsPor
 use readers::{Items, Misfit, Table, expect, kind, value};
 use signs::kinds;
 use tape::{ACTOR, DECLARED, MEMORY, SIGNED, SIZE};
-use type_reader::typ;
+use type_reader::declared;
 
-// The value of a port's item: so much for an input, and so much more where a type is on the tape, as with a memory's.
+// The value of a port's item: so much for an input, and 1 more where a type is on the tape, as with a memory's.
 const INPUT: u32 = 2;
-
-const TYPED: u32 = 1;
 
 // The actor's name, its signature, ports and memories: no name needs its memory mark here.
 pub fn head(words: &Table, items: &mut Items, at: usize) -> Result<usize, Misfit>
@@ -91,13 +89,9 @@ fn port(words: &Table, items: &mut Items, at: usize, input: bool) -> Result<usiz
     requires within { Within words.now at }
     ensures { IsPort words.now at items.old.n items.old.tape (came result items.new.n) items.new.tape input }
 {
-    let mark = INPUT * u32::from(input);
-    if kind(words, at + 1) != kinds::LESS {
-        return port_name(words, items, at + 1, mark);
-    }
-    let x = typ(words, items, at + 2)?;
-    let y = expect(words, x, kinds::GREATER)?;
-    port_name(words, items, y, mark + TYPED)
+    let (x, typed) = declared(words, items, at + 1)?;
+    let mark = INPUT * u32::from(input) + u32::from(typed);
+    port_name(words, items, x, mark)
 }
 
 // A port's name, after a type that is on the tape or none.
@@ -132,12 +126,8 @@ fn storage(words: &Table, items: &mut Items, at: usize) -> Result<usize, Misfit>
     requires within { Within words.now at }
     ensures { IsMemory words.now at items.old.n items.old.tape (came result items.new.n) items.new.tape true }
 {
-    if kind(words, at + 1) != kinds::LESS {
-        return memory_name(words, items, at + 1, 0);
-    }
-    let x = typ(words, items, at + 2)?;
-    let y = expect(words, x, kinds::GREATER)?;
-    memory_name(words, items, y, TYPED)
+    let (x, typed) = declared(words, items, at + 1)?;
+    memory_name(words, items, x, u32::from(typed))
 }
 
 // A memory's name and size, after a type that is on the tape or none.

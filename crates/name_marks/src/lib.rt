@@ -33,7 +33,7 @@ const P: &[u8] = b"p";
 
 const TYPE: &[u8] = b"type";
 
-// The mark of a name by its spelling. No `match` on byte strings: of such an arm the check knows the length alone (c).
+// The mark of a name by its spelling. No `match` on byte strings; tried: the check knows of such an arm the length alone.
 fn spelled(name: &[u8]) -> u32
     ensures { IsSpelled name.now result }
 {

@@ -21,9 +21,7 @@ impl Items {
         requires { self.old.n + 3 ≤ longest }
         ensures { On self.old.tape self.old.n (op ∷ at ∷ v ∷ []) self.new.n self.new.tape }
     {
-        self.tape[self.n] = op;
-        self.tape[self.n + 1] = at;
-        self.tape[self.n + 2] = v;
+        self.tape[self.n..self.n + 3].copy_from_slice(&[op, at, v]);
         self.n += 3;
     }
 

@@ -1,6 +1,9 @@
 // What all readers of words share: the table of words that they look at, the tape that they put items on, where they came to.
 // What comes in: words whose names are marked, and a tape. What goes out: a word's kind and numbers, marks of names,
 // levels of operators; an item on the tape.
+// The readers of lists loop by `while` or `loop`: no index is counted there, a turn goes on to the word that the reader answers.
+// They are not one function with the item's reader as its parameter. Tried: it proves, and is no plainer; two lines of each loop are
+// its own, the kind of word that it looks for and the item, and a generic loop's clause (a chain of `F.post`) is longer than the loops.
 #![tactic(auto)]
 
 mod items;

@@ -54,11 +54,8 @@ fn marked(words: &Table, at: usize, mark: u32) -> bool
     requires small { mark < 4 }
     ensures { result ≡ marked mark words.now at }
 {
-    if kind(words, at) != kinds::NAME {
-        return false;
-    }
-    let v = value(words, at);
-    v == mark || v == mark + IS_MEMORY
+    kind(words, at) == kinds::NAME
+        && (value(words, at) == mark || value(words, at) == mark + IS_MEMORY)
 }
 
 // Whether the name `type` stands at an index.
@@ -157,11 +154,9 @@ pub fn arm_ends(words: &Table, at: usize, arm: bool) -> bool
     requires { Inside words.now at }
     ensures { Ends words.now at arm result }
 {
-    if !arm || kind(words, at) != kinds::BAR {
-        return false;
-    }
-    match kind(words, at + 1) {
-        kinds::NUMBER => kind(words, at + 2) == kinds::ARROW,
-        label => label == kinds::DEFAULT,
-    }
+    arm && kind(words, at) == kinds::BAR
+        && match kind(words, at + 1) {
+            kinds::NUMBER => kind(words, at + 2) == kinds::ARROW,
+            label => label == kinds::DEFAULT,
+        }
 }

@@ -7,12 +7,11 @@ use native.Mathlib.Omega.{arith}
 use lib.ListN.{drop}
 use Rattle.language.specs.Text.{among}
 use Rattle.language.specs.Words.{Word}
-use Rattle.language.specs.Tree.{Declared, untyped, assign, write}
+use Rattle.language.specs.Tree.{Declared, assign, write}
 use Rattle.language.specs.Reader.{ok, bad, on, is_name, expect, until}
-use Rattle.language.specs.Parser.{type_p, expr_p, assignment_p, val_p}
+use Rattle.language.specs.Parser.{expr_p, assignment_p}
 use Rattle.words.specs.Table.{word_of}
 use Rattle.readers.specs.Marks.{kind_at, value_at, name_at, spelled_at, Marked, is_memory}
-use Rattle.type_reader.proofs.Grammar.{declared_none, declared_some}
 use Rattle.rule_reader.specs.States.{binding_p}
 use Rattle.readers.proofs.Spells.{kind_inside, kind_is, word_found, on_miss, name_miss}
 use Rattle.readers.specs.Meets.{Finds, Lacks}
@@ -30,14 +29,6 @@ module _ {text : List ℕ} {ms : List (List ℕ)} {w : List ℕ} {ws : List Word
       ≡ expect "[" (drop (at + 1) ws) (λ p r. until (expr_p ms f false r) "]" (λ a q x. expect "=" x (λ s y. until (expr_p ms f false y) ";" (λ e t z. ok (write (name_at text w at) a e) z))))
   unfolding assignment_p
   assignment_memory e q = simp (assignment_p, among_at e ∙ q)
-
-  pub val_untyped : (kind_at w at ≡ 48 → ⊥) → val_p ms f 0 (drop at ws) ≡ binding_p ms f untyped (drop at ws)
-  unfolding val_p binding_p
-  val_untyped h = declared_none M f at (λ t x. binding_p ms f t x) h
-
-  pub val_typed : kind_at w at ≡ 48 → val_p ms f 0 (drop at ws) ≡ until (type_p f (drop (at + 1) ws)) ">" (λ t q x. binding_p ms f (Declared.typed t) x)
-  unfolding val_p binding_p
-  val_typed e = declared_some M f at (λ t x. binding_p ms f t x) e
 
   pub binding_name : (d : Declared) {y : ℕ} → Finds w at 2 y → binding_p ms f d (drop at ws)
       ≡ expect "=" (drop y ws) (λ q z. until (expr_p ms f false z) ";" (λ e s l. ok (record { type = d; called = name_at text w at; value = e }) l))

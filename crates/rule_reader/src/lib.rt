@@ -17,8 +17,8 @@ use readers::{Items, Misfit, Table, expect, kind};
 use signs::kinds;
 use tape::{END, GROUPED, LET, OR, RULE, RULED};
 
-// A list is read by a loop of none or more; where one or more is asked for, the first word is tested before. One loop with the
-// reader as its parameter would be no plainer: two of the three lines are the list's own, and its clause is longer than they are.
+// A list is read by a loop of none or more; where one or more is asked for, the first word is tested before. Why the loops are not
+// one function is said in readers/src/lib.rt.
 fn vals(words: &Table, items: &mut Items, at: usize) -> Result<usize, Misfit>
     requires { Room words.now at items.old.n }
     ensures { IsVals words.now at items.old.n items.old.tape (came result items.new.n) items.new.tape }

@@ -6,10 +6,10 @@ ghost use Rattle.readers.specs.Meets.{Room, Starts, came};
 ghost use Rattle.rule_reader.specs.States.{IsAssignment, IsBinding, IsVal};
 
 use expression_reader::expr;
-use readers::{Items, Misfit, Table, expect, kind, memory};
+use readers::{Items, Misfit, Table, expect, memory};
 use signs::kinds;
 use tape::{ASSIGN, VAL, WRITE};
-use type_reader::typ;
+use type_reader::declared;
 
 // A name and what is written to it, with an address where it is a memory.
 pub fn assignment(words: &Table, items: &mut Items, at: usize) -> Result<usize, Misfit>
@@ -47,12 +47,8 @@ pub fn val(words: &Table, items: &mut Items, at: usize) -> Result<usize, Misfit>
     requires { Room words.now at items.old.n }
     ensures { IsVal words.now at items.old.n items.old.tape (came result items.new.n) items.new.tape }
 {
-    if kind(words, at) != kinds::LESS {
-        return binding(words, items, at, 0);
-    }
-    let x = typ(words, items, at + 1)?;
-    let y = expect(words, x, kinds::GREATER)?;
-    binding(words, items, y, 1)
+    let (x, typed) = declared(words, items, at)?;
+    binding(words, items, x, u32::from(typed))
 }
 
 // A name and its value, after a type that is on the tape or none.

@@ -1,22 +1,25 @@
 -- The grammar's laws: what each function of the reader of lists is at a word of each kind. Assumes nothing.
 use mathlib.Core.Path.{◌≡◌, refl, ap, ◌∙◌}
-use mathlib.Core.Bool.{true, false}
-use mathlib.Core.List.{List, [], ◌∷◌, ◌++◌}
-use mathlib.Core.Option.{Option, none, some}
+use mathlib.Core.Bool.{Bool, true, false}
+use mir.Val.{bool_byte}
+use mathlib.Core.List.{List, ◌++◌}
 use Prim.Native.Nat.{ℕ, zero, suc, ◌+◌, ◌≤◌}
-use Prim.Native.String.{String}
 use native.Mathlib.Omega.{arith}
 use lib.ListN.{drop}
 use Rattle.language.specs.Words.{Word}
 use Rattle.language.specs.Tree.{Ty, number, environment, port, plus, minus, log, ceil, floor, most, entry, within, Declared, untyped}
-use Rattle.language.specs.Reader.{Res, ok, bad, dry, bind, on, is, is_num, is_name, is_the, expect, until}
+use Rattle.language.specs.Reader.{Res, ok, bad, bind, on, is, is_num, is_name, is_the, expect, until}
 use Rattle.language.specs.Parser.{type_p, type_l, term_p, entry_l, declared_p}
 use Rattle.signs.specs.Kinds.{spelled_words}
 use Rattle.words.specs.Table.{word_of}
-use Rattle.tape.specs.Tape.{flat_t, item}
+use Rattle.tape.specs.Tape.{one_if, is_typed, flat_t, flat_d, item}
+use Rattle.std.specs.Prelude.{Ok, Err}
 use Rattle.readers.specs.Marks.{kind_at, place_at, numeral_at, name_at, Marked, the_type}
-use Rattle.readers.proofs.Spells.{word, on_miss, on_is, off_is, num_miss, name_miss, on_type, off_type}
-use Rattle.readers.proofs.Fixed.{s_max, s_log, s_ceil, s_floor, s_open, s_comma, s_dot, s_less, s_plus, s_minus}
+use Rattle.readers.specs.Meets.{Out, Finds, Lacks, On, Agrees, read, fault}
+use Rattle.readers.specs.declared.Misfit.{Misfit}
+use Rattle.type_reader.specs.Types.{Tells, there, amiss}
+use Rattle.readers.proofs.Spells.{word, on_miss, on_is, off_is, num_miss, name_miss, on_type, off_type, expect_found, expect_lacks}
+use Rattle.readers.proofs.Fixed.{s_max, s_log, s_ceil, s_floor, s_open, s_comma, s_dot, s_less, s_greater, s_plus, s_minus}
 
 module _ {text : List ℕ} {ms : List (List ℕ)} {w : List ℕ} {ws : List Word} (M : Marked text ms w ws) (f at : ℕ) where
   -- ---- types
@@ -140,25 +143,41 @@ function_law M f at zero h g e = absurd (omega arith)
 
 -- ---- declared types
 
--- what is made of an answer at once, and later
-bind_until : {A B C : Type 0} (u : Res A) (s : String) (h : A → B) (g : B → List Word → Res C) → bind (until u s (λ a p y. ok (h a) y)) g ≡ until u s (λ a p y. g (h a) y)
-unfolding bind until expect on
-bind_until (ok a []) s h g = refl
-bind_until {C = C} (ok a (x ∷ r)) s h g = go (is s x)
-  where
-    go : (o : Option ℕ) → bind (elim o [ some p ↦ ok (h a) r | none ↦ bad (x ∷ r) ]) g ≡ elim o [ some p ↦ g (h a) r | none ↦ bad (x ∷ r) ]
-    go none = refl
-    go (some p) = refl
-bind_until (bad ws) s h g = refl
-bind_until dry s h g = refl
+pub one_byte : (b : Bool) → one_if b ≡ bool_byte b
+unfolding one_if
+one_byte true = refl
+one_byte false = refl
 
-module _ {text : List ℕ} {ms : List (List ℕ)} {w : List ℕ} {ws : List Word} (M : Marked text ms w ws) (f at : ℕ) where
-  -- a declared type, or none, and what is made of it
-  module _ {T : Type 0} (g : Declared → List Word → Res T) where
-    pub declared_none : (kind_at w at ≡ 48 → ⊥) → bind (declared_p f (drop at ws)) g ≡ g untyped (drop at ws)
-    unfolding bind declared_p
-    declared_none h = ap (λ (u : Res Declared). bind u g) (off_is M "<" 48 at s_less _ _ h)
-
-    pub declared_some : kind_at w at ≡ 48 → bind (declared_p f (drop at ws)) g ≡ until (type_p f (drop (at + 1) ws)) ">" (λ t q x. g (Declared.typed t) x)
+-- a declared type, or none
+module _ {text : List ℕ} {ms : List (List ℕ)} {w : List ℕ} {ws : List Word} (M : Marked text ms w ws) where
+  module _ (f at : ℕ) where
+    pub declared_none : (kind_at w at ≡ 48 → ⊥) → declared_p f (drop at ws) ≡ ok untyped (drop at ws)
     unfolding declared_p
-    declared_some e = ap (λ (u : Res Declared). bind u g) (on_is M "<" 48 at s_less _ _ e) ∙ bind_until (type_p f (drop (at + 1) ws)) ">" (λ t. Declared.typed t) g
+    declared_none h = off_is M "<" 48 at s_less _ _ h
+
+    pub declared_some : kind_at w at ≡ 48 → declared_p f (drop at ws) ≡ until (type_p f (drop (at + 1) ws)) ">" (λ t q x. ok (Declared.typed t) x)
+    unfolding declared_p
+    declared_some e = on_is M "<" 48 at s_less _ _ e
+
+  pub typed_ok : (u : Res Ty) {n x y m : ℕ} {t t₁ : List ℕ} → Agrees flat_t ws n t u (Ok (x, m)) t₁ → Finds w x 49 y → Tells ws n t (until u ">" (λ t q x. ok (Declared.typed t) x)) (Ok (y, true)) m t₁
+  unfolding until bind flat_d is_typed one_if
+  typed_ok u (read {e = a} o) g = rw (expect_found M s_greater (λ q y. ok (Declared.typed a) y) g) (there refl o)
+
+  pub typed_missed : (u : Res Ty) {n x m : ℕ} {t t₁ : List ℕ} {e : Misfit} → Agrees flat_t ws n t u (Ok (x, m)) t₁ → Lacks w x 49 e.at → Tells ws n t (until u ">" (λ t q x. ok (Declared.typed t) x)) (Err e) m t₁
+  unfolding until bind
+  typed_missed u (read {e = a} o) g = rw (expect_lacks M s_greater (λ q y. ok (Declared.typed a) y) g) amiss
+
+  pub typed_err : (u : Res Ty) {n m : ℕ} {t t₁ : List ℕ} {e : Misfit} → Agrees flat_t ws n t u (Err e) t₁ → Tells ws n t (until u ">" (λ t q x. ok (Declared.typed t) x)) (Err e) m t₁
+  unfolding until bind
+  typed_err u fault = amiss
+
+-- what is made of it
+pub tells_ok : {B : Type 0} {fl : B → List ℕ} {ws : List Word} (u : Res Declared) (g : Declared → List Word → Res B) {n b m x : ℕ} {t t₁ s t' : List ℕ} {k : Bool} {r : Out}
+    → Tells ws n t u (Ok (x, k)) m t₁ → ((d : Declared) → is_typed d ≡ one_if k → On t n (flat_d d) m t₁ → Agrees fl ws b s (g d (drop x ws)) r t') → Agrees fl ws b s (bind u g) r t'
+unfolding bind
+tells_ok u g (there {d = d} e o) h = h d e o
+
+pub tells_err : {B : Type 0} {fl : B → List ℕ} {ws : List Word} (u : Res Declared) (g : Declared → List Word → Res B) {n b m : ℕ} {t t₁ s t' : List ℕ} {e : Misfit}
+    → Tells ws n t u (Err e) m t₁ → Agrees fl ws b s (bind u g) (Err e) t'
+unfolding bind
+tells_err u g amiss = fault

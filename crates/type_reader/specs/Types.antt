@@ -1,12 +1,13 @@
 -- What the contracts of the readers of types, constants and bit positions say. Assumes nothing: these are definitions.
-use Rattle.std.specs.Prelude.{◌≡◌, List, ◌++◌, ℕ, ◌+◌, ◌*◌, ◌-◌, ◌≤◌, ◌<◌, drop}
+use Rattle.std.specs.Prelude.{◌≡◌, Result, Ok, Err, Bool, List, ◌++◌, ℕ, ◌+◌, ◌*◌, ◌-◌, ◌≤◌, ◌<◌, drop}
 use Rattle.language.specs.Words.{Word}
-use Rattle.language.specs.Tree.{Ty, Breadth, Expr, bit, range}
-use Rattle.language.specs.Reader.{Res, ok, on, is, expect, until}
-use Rattle.language.specs.Parser.{type_p, type_l, term_p, entry_l, part_p, amount_p, operand_p}
-use Rattle.tape.specs.Tape.{flat_t, flat_b, flat}
+use Rattle.language.specs.Tree.{Ty, Declared, Breadth, Expr, bit, range}
+use Rattle.language.specs.Reader.{Res, ok, bad, on, is, expect, until}
+use Rattle.language.specs.Parser.{type_p, type_l, term_p, entry_l, declared_p, part_p, amount_p, operand_p}
+use Rattle.tape.specs.Tape.{one_if, is_typed, flat_t, flat_d, flat_b, flat}
 use Rattle.readers.specs.Marks.{count, kind_at, place_at, Marked}
 use Rattle.readers.specs.Meets.{Out, On, Moved, Agrees, Met, MetOn}
+use Rattle.readers.specs.declared.Misfit.{Misfit}
 
 -- digits, or `'d`
 pub data Valued (w : List ℕ) (x : ℕ) : Type 0 where
@@ -54,3 +55,18 @@ pub record IsPositions (w : List ℕ) (from at n : ℕ) (t : List ℕ) (r : Out)
   pub moved : Moved (count w) (at - 1) n r
   pub agrees : {text : List ℕ} {ms : List (List ℕ)} {ws : List Word} → Marked text ms w ws → (f : ℕ) → 8 * count w + 1 < f + 8 * at
       → (e : Expr) (i : Ty) {s : List ℕ} {b : ℕ} → On s b (flat e ++ flat_t i) n t → Agrees flat ws b s (positions_p f (place_at w from) e i (drop at ws)) r t'
+
+-- where the reader of a declared type came to, which also tells whether there is one
+abbrev pub led : Result (ℕ × Bool) Misfit → ℕ → Out
+led (Ok (x, b)) n = Ok (x, n)
+led (Err e) n = Err e
+
+-- as `Agrees`, and it is told whether there is a type
+pub data Tells (ws : List Word) (n : ℕ) (t : List ℕ) : Res Declared → Result (ℕ × Bool) Misfit → ℕ → List ℕ → Type 0 where
+  there : {d : Declared} {x m : ℕ} {b : Bool} {t' : List ℕ} → is_typed d ≡ one_if b → On t n (flat_d d) m t' → Tells ws n t (ok d (drop x ws)) (Ok (x, b)) m t'
+  amiss : {e : Misfit} {m : ℕ} {t' : List ℕ} → Tells ws n t (bad (drop e.at ws)) (Err e) m t'
+
+-- a type in `< >` or none, the n' numbers on the tape t' then
+pub record IsDeclared (w : List ℕ) (at n : ℕ) (t : List ℕ) (r : Result (ℕ × Bool) Misfit) (n' : ℕ) (t' : List ℕ) : Type 0 where
+  pub moved : Moved (count w) at n (led r n')
+  pub agrees : {text : List ℕ} {ms : List (List ℕ)} {ws : List Word} → Marked text ms w ws → (f : ℕ) → 8 * count w < f + 8 * at → Tells ws n t (declared_p f (drop at ws)) r n' t'

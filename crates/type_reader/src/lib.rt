@@ -9,7 +9,7 @@ ghost use Rattle.std.specs.Prelude.{◌+◌, ◌-◌, ◌≤◌};
 ghost use Rattle.tape.specs.Tape.{LOG, FLOOR};
 ghost use Rattle.signs.specs.Kinds.{log_kind, max_kind, name_kind, number_kind, open_kind};
 ghost use Rattle.readers.specs.Meets.{Room, Starts, came};
-ghost use Rattle.type_reader.specs.Types.{IsType, IsTerm, IsSums, IsEntries};
+ghost use Rattle.type_reader.specs.Types.{IsType, IsTerm, IsSums, IsEntries, IsDeclared};
 
 pub use constants::{constant, part, typed};
 use readers::{Items, Misfit, Table, expect, kind, sum, the_type, value};
@@ -136,4 +136,17 @@ fn within(words: &Table, items: &mut Items, at: usize) -> Result<usize, Misfit>
     let y = expect(words, x, kinds::CLOSE)?;
     items.put(words, at, WITHIN, 0);
     Ok(y)
+}
+
+// A declared type, in `< >`, or none: the index of the next word, and whether there is one.
+pub fn declared(words: &Table, items: &mut Items, at: usize) -> Result<(usize, bool), Misfit>
+    requires { Room words.now at items.old.n }
+    ensures { IsDeclared words.now at items.old.n items.old.tape result items.new.n items.new.tape }
+{
+    if kind(words, at) != kinds::LESS {
+        return Ok((at, false));
+    }
+    let x = typ(words, items, at + 1)?;
+    let y = expect(words, x, kinds::GREATER)?;
+    Ok((y, true))
 }
