@@ -4,7 +4,7 @@ ghost use Rattle.language.specs.Text.{index};
 ghost use Rattle.language.specs.Widths.{value_in};
 ghost use Rattle.sized_constants.specs.Constant.{amount_of};
 ghost use Rattle.placed.specs.Placed.{name_from};
-ghost use Rattle.tape.specs.Tape.{SIGNED, MEMORY, PRESENT, most_items};
+ghost use Rattle.tape.specs.Tape.{SIGNED, MEMORY, PRESENT, VAL, most_items};
 ghost use Rattle.row09_bindings.specs.Lines.{lines_on};
 ghost use Rattle.settled.specs.Form.{six};
 ghost use Rattle.settled.specs.Settled.{amount as amount_numbers};
@@ -161,6 +161,27 @@ fn plain(op: u32, place: u32, value: u32) -> Option<[u32; 6]>
     }
 }
 
+// A `val`: its slot, with the width of the latest type where it has one.
+fn val(
+    place: u32,
+    value: u32,
+    code: &[u32],
+    starts: &[usize],
+    widths: &[u32],
+    w: Waits,
+    vals: usize,
+) -> Option<[u32; 6]>
+    requires { (w.types ≤ length starts.now) × (w.nodes ≤ length code.now) }
+    ensures { WritesTyped result VAL place value code.now starts.now widths.now w vals }
+{
+    if value == 1 {
+        let x = width(code, starts, widths, w);
+        Some([settled::TYPED, place, narrow(vals), 0, 0, x])
+    } else {
+        Some([settled::VAL, place, narrow(vals), 0, 0, 0])
+    }
+}
+
 // An item that names nothing: it may hold the latest type, or the latest two.
 fn typed(
     op: u32,
@@ -176,14 +197,10 @@ fn typed(
     ensures { WritesTyped result op place value code.now starts.now widths.now w vals }
 {
     match op {
-        TYPED => Some([
-            settled::BITS,
-            place,
-            width(code, starts, widths, w),
-            0,
-            0,
-            0,
-        ]),
+        TYPED => {
+            let x = width(code, starts, widths, w);
+            Some([settled::BITS, place, x, 0, 0, 0])
+        }
         BIT => {
             let q = position(code, starts, widths, w);
             Some([settled::RANGE, place, q, q, 0, 0])
@@ -193,14 +210,7 @@ fn typed(
             let high = position(code, starts, widths, without(starts, w, 1));
             Some([settled::RANGE, place, high, low, 0, 0])
         }
-        VAL => {
-            if value == 1 {
-                let x = width(code, starts, widths, w);
-                Some([settled::TYPED, place, narrow(vals), 0, 0, x])
-            } else {
-                Some([settled::VAL, place, narrow(vals), 0, 0, 0])
-            }
-        }
+        VAL => val(place, value, code, starts, widths, w, vals),
         _ => plain(op, place, value),
     }
 }
