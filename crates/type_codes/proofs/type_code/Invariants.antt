@@ -1,7 +1,7 @@
 -- `row10_widths::codes::type_code` meets its contract: the slot so far, and the items left, come to the same nodes. Assumes nothing.
 use mathlib.Core.Path.{◌≡◌}
 use mathlib.Core.List.{[]}
-use Prim.Native.Nat.{◌≤◌, ◌-◌, ◌*◌, ◌/◌}
+use Prim.Native.Nat.{◌≤◌, ◌*◌}
 use lib.ListN.{length, take, drop}
 use Rattle.type_nodes.specs.Codes.{env_in, sought_in}
 use Rattle.type_codes.proofs.type_code.Given as goal
