@@ -8,10 +8,11 @@ use native.Mathlib.Numerals.{add-one}
 use lib.Dec.{leb, ltb, eqb}
 use lib.ListN.{length, drop, get_or, drop_of_length-le}
 use lib.Seq.{drop-cons}
-use borrow.Author.Tests.{le-leb, lt-leb, lt-ltb, le-ltb, eq-eqb, ne_eqb, leb-true, ltb-true, ltb-false, eqb-true, eqb-false}
+use borrow.Author.Tests.{lt-ltb, le-ltb, eq-eqb, ne_eqb, leb-true, ltb-true, ltb-false, eqb-true, eqb-false}
 use Rattle.language.specs.Words.{digit}
 use Rattle.language.specs.Bindings.{Got, got, lost, after, byte, digits_from, number_up_to}
 use Rattle.std.specs.Prelude.{Some, None, Result, Ok, Err, MatchOption, MatchResult, IsErrAnd}
+use Rattle.std.specs.Bool.{then_some}
 use Rattle.std.proofs.lemmas.Result.{err_from_is_err_and}
 use Rattle.binding_numbers.specs.Steps.{Step, grown_of, passed, ended, number_told, Reads}
 use Rattle.binding_numbers.specs.declared.Went.{Went}
@@ -33,13 +34,13 @@ module _ (most n b : ℕ) where
   unfolding grown_of
   grown_zero e = simp (grown_of, le-ltb 0 n (omega arith), and_false)
 
-  pub grown_over : most < n * 10 + (b - 48) → grown_of most n b ≡ None
+  pub grown_digit : digit b ≡ true → 0 < n → then_some (leb (n * 10 + (b - 48)) most) (n * 10 + (b - 48)) ≡ grown_of most n b
   unfolding grown_of
-  grown_over h = simp (grown_of, lt-leb _ _ h, and_false)
-
-  pub grown_to : digit b ≡ true → 0 < n → n * 10 + (b - 48) ≤ most → grown_of most n b ≡ Some (n * 10 + (b - 48))
-  unfolding grown_of
-  grown_to e h k = simp (grown_of, e, lt-ltb _ _ h, le-leb _ _ k)
+  grown_digit e h = go (leb (n * 10 + (b - 48)) most) refl
+    where
+      go : (t : Bool) → leb (n * 10 + (b - 48)) most ≡ t → then_some t (n * 10 + (b - 48)) ≡ grown_of most n b
+      go true k = sym (simp (grown_of, e, lt-ltb _ _ h, k))
+      go false k = sym (simp (grown_of, e, lt-ltb _ _ h, k))
 
   -- a digit follows or it does not
   pub record Follows (m : ℕ) : Type 0 where

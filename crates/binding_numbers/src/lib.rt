@@ -34,7 +34,7 @@ fn grown(n: usize, b: u8, most: usize) -> Option<usize>
         return None;
     }
     let m = n * 10 + usize::from(b - b'0');
-    if m <= most { Some(m) } else { None }
+    (m <= most).then_some(m)
 }
 
 // The digits after the first.

@@ -18,6 +18,7 @@ pub struct Waits {
 }
 
 // What an item does to the types that wait: a leaf begins one, a node of one operand ends the latest, one of two joins two.
+// No Option of a node: a node alone doesn't tell how many types it takes, so there are four things that an item does.
 #[derive(Clone, Copy)]
 pub enum Grows {
     Nothing,

@@ -10,7 +10,7 @@ ghost use Rattle.item_writes.specs.Tables.{Ordered, waits_in, begins_at, Left, G
 
 use crate::{Given, Grows, Waits};
 use looked_up::{narrow, numbered, value};
-use tape::{CEIL, ENTRY, ENVIRONMENT, FLOOR, LOG, MINUS, NUMBER, PLUS, PORT, SIGNED, wide};
+use tape::{CEIL, ENTRY, ENVIRONMENT, FLOOR, LOG, MINUS, NUMBER, PLUS, PORT, SIGNED};
 
 // A node's number, where 32 bits hold it: a leaf of 0 else.
 #[tactic(auto, unfolding(crate::specs::Walk::leaf, crate::specs::Walk::when))]
@@ -28,10 +28,10 @@ pub fn growth(given: Given, i: usize) -> Grows
     let tape = given.tape;
     let place = tape[3 * i + 1];
     match tape[3 * i] {
-        NUMBER => Grows::Leaf(leaf(wide(tape[3 * i + 2]) * 8)),
+        NUMBER => Grows::Leaf(leaf(tape[3 * i + 2] as usize * 8)),
         ENVIRONMENT => {
-            let x = value(given.text, wide(place), given.bound);
-            Grows::Leaf(leaf(wide(x) * 8))
+            let x = value(given.text, place as usize, given.bound);
+            Grows::Leaf(leaf(x as usize * 8))
         }
         PORT => Grows::Leaf(leaf(numbered(given.text, tape, given.many, SIGNED, place) * 8 + 1)),
         LOG => Grows::End(2),

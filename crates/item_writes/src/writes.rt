@@ -4,7 +4,7 @@ ghost use Rattle.language.specs.Text.{index};
 ghost use Rattle.language.specs.Widths.{value_in};
 ghost use Rattle.sized_constants.specs.Constant.{amount_of};
 ghost use Rattle.placed.specs.Placed.{name_from};
-ghost use Rattle.tape.specs.Tape.{SIGNED, MEMORY, PRESENT, most_items};
+ghost use Rattle.tape.specs.Tape.{SIGNED, MEMORY, PRESENT, VAL, most_items};
 ghost use Rattle.row09_bindings.specs.Lines.{lines_on};
 ghost use Rattle.settled.specs.Form.{six};
 ghost use Rattle.settled.specs.Settled.{amount as amount_numbers};
@@ -17,7 +17,7 @@ use crate::{Far, Given, Waits};
 use looked_up::{cells_before, count, latest, narrow, numbered, size_of, value, width_of};
 use tape::{
     ACTOR, ASSIGN, BIT, BITS, CELL, Class, DECLARED, DEFAULT, END, GIVEN, GROUPED, INSIDE, LET,
-    MEMORY, PRESENT, RANGE, READ, SIGNED, SIZE, TYPED, VAL, VALUE, WRITE, name, said, wide,
+    MEMORY, PRESENT, RANGE, READ, SIGNED, SIZE, TYPED, VAL, VALUE, WRITE, name, said,
 };
 
 // What the number of an output port has above its width.
@@ -44,7 +44,7 @@ fn amount(place: u32, x: Option<u64>) -> Option<[u32; 6]>
 fn bound(given: Given, place: u32) -> Option<[u32; 6]>
     ensures { numbers_of result ≡ amount_numbers place (value_in (lines_on given.entry.bound.text.now given.entry.bound.table.now given.entry.bound.lines.widths given.entry.bound.lines.values) (name_from given.entry.text.now place)) }
 {
-    let x = value(given.text, wide(place), given.bound);
+    let x = value(given.text, place as usize, given.bound);
     amount(place, Some(u64::from(x)))
 }
 
@@ -93,7 +93,7 @@ fn read(given: Given, i: usize, place: u32, lets: usize, vals: usize) -> Option<
     requires { (lets ≤ i) × (i < given.many) }
     ensures { Reads result given.entry i place lets vals }
 {
-    let called = name(given.text, wide(place));
+    let called = name(given.text, place as usize);
     if said(given.text, given.tape, lets, i, Class::Val, called) {
         let k = latest(given.text, given.tape, lets, i, called);
         let slot = vals.saturating_sub(k).saturating_sub(1);
@@ -116,11 +116,11 @@ fn signed(given: Given, place: u32) -> Option<[u32; 6]>
         0,
         given.many,
         Class::Input,
-        name(given.text, wide(place)),
+        name(given.text, place as usize),
     ) {
         return Some([settled::SIGNED, place, w, 0, 0, 0]);
     }
-    Some([settled::SIGNED, place, narrow(wide(w) + OUTPUT), 0, 0, 0])
+    Some([settled::SIGNED, place, narrow(w as usize + OUTPUT), 0, 0, 0])
 }
 
 // An entry of a rule's list: its port, and whether it is to be present.
@@ -161,6 +161,27 @@ fn plain(op: u32, place: u32, value: u32) -> Option<[u32; 6]>
     }
 }
 
+// A `val`: its slot, with the width of the latest type where it has one.
+fn val(
+    place: u32,
+    value: u32,
+    code: &[u32],
+    starts: &[usize],
+    widths: &[u32],
+    w: Waits,
+    vals: usize,
+) -> Option<[u32; 6]>
+    requires { (w.types ≤ length starts.now) × (w.nodes ≤ length code.now) }
+    ensures { WritesTyped result VAL place value code.now starts.now widths.now w vals }
+{
+    if value == 1 {
+        let x = width(code, starts, widths, w);
+        Some([settled::TYPED, place, narrow(vals), 0, 0, x])
+    } else {
+        Some([settled::VAL, place, narrow(vals), 0, 0, 0])
+    }
+}
+
 // An item that names nothing: it may hold the latest type, or the latest two.
 fn typed(
     op: u32,
@@ -176,14 +197,10 @@ fn typed(
     ensures { WritesTyped result op place value code.now starts.now widths.now w vals }
 {
     match op {
-        TYPED => Some([
-            settled::BITS,
-            place,
-            width(code, starts, widths, w),
-            0,
-            0,
-            0,
-        ]),
+        TYPED => {
+            let x = width(code, starts, widths, w);
+            Some([settled::BITS, place, x, 0, 0, 0])
+        }
         BIT => {
             let q = position(code, starts, widths, w);
             Some([settled::RANGE, place, q, q, 0, 0])
@@ -193,14 +210,7 @@ fn typed(
             let high = position(code, starts, widths, without(starts, w, 1));
             Some([settled::RANGE, place, high, low, 0, 0])
         }
-        VAL => {
-            if value == 1 {
-                let x = width(code, starts, widths, w);
-                Some([settled::TYPED, place, narrow(vals), 0, 0, x])
-            } else {
-                Some([settled::VAL, place, narrow(vals), 0, 0, 0])
-            }
-        }
+        VAL => val(place, value, code, starts, widths, w, vals),
         _ => plain(op, place, value),
     }
 }
@@ -214,7 +224,7 @@ pub fn written(given: Given, i: usize, code: &[u32], starts: &[usize], far: Far)
     let p = given.tape[3 * i + 1];
     let v = given.tape[3 * i + 2];
     match op {
-        GIVEN => amount(p, sized_constants::constant(given.text, wide(p))),
+        GIVEN => amount(p, sized_constants::constant(given.text, p as usize)),
         VALUE => bound(given, p),
         READ => read(given, i, p, far.lets, far.vals),
         CELL => cell(given, settled::CELL, p),

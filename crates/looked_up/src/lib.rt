@@ -14,7 +14,7 @@ ghost use Rattle.row09_bindings.specs.Lines.{lines_on};
 ghost use Rattle.looked_up.specs.Lookup.{operand, named, size_before, sizes_on, sum_of};
 
 use bindings::Bound;
-use tape::{MEMORY, SIZE, VAL, name, wide};
+use tape::{MEMORY, SIZE, VAL, name};
 
 // A number as an operand: what 32 bits do not hold is outside.
 #[tactic(auto, unfolding(crate::specs::Lookup::operand))]
@@ -39,7 +39,7 @@ fn number(text: &[u8], tape: &[u32], many: usize, op: u32, called: &[u8]) -> usi
     let mut k = 0;
     for i in 0..many {
         if tape[3 * i] == op {
-            let at = wide(tape[3 * i + 1]);
+            let at = tape[3 * i + 1] as usize;
             if spelling::same_bytes(name(text, at), called) {
                 return k;
             }
@@ -54,7 +54,7 @@ pub fn numbered(text: &[u8], tape: &[u32], many: usize, op: u32, place: u32) -> 
     requires { 3 * many ≤ length tape.now }
     ensures { (result ≡ index (named text.now tape.now op 0 many) (name_from text.now place)) × (result ≤ many) }
 {
-    number(text, tape, many, op, name(text, wide(place)))
+    number(text, tape, many, op, name(text, place as usize))
 }
 
 // How many items have an operation.
@@ -79,7 +79,7 @@ pub fn latest(text: &[u8], tape: &[u32], from: usize, to: usize, called: &[u8]) 
     let mut k = 0;
     for i in (from..to).rev() {
         if tape[3 * i] == VAL {
-            let at = wide(tape[3 * i + 1]);
+            let at = tape[3 * i + 1] as usize;
             if spelling::same_bytes(name(text, at), called) {
                 return k;
             }
@@ -123,7 +123,7 @@ pub fn cells_before(tape: &[u32], many: usize, k: usize) -> usize
             return sum;
         }
         if tape[3 * i] == MEMORY {
-            sum += wide(size_before(tape, i));
+            sum += size_before(tape, i) as usize;
             left -= 1;
         }
     }

@@ -4,13 +4,14 @@ use mathlib.Core.Bool.{Bool, true, false}
 use mathlib.Core.List.{List, ◌∷◌}
 use Prim.Native.Nat.{ℕ, suc, ◌+◌}
 use native.Mathlib.Numerals.{add-one}
-use borrow.Author.Tests.{eq-eqb, ne_eqb}
+use lib.Dec.{eqb}
 use Rattle.language.specs.Text.{earliest}
 use Rattle.language.specs.Names.{when}
 use Rattle.words.specs.Found.{place_told}
 use Rattle.words.specs.Found.{Place}
 use Rattle.std.specs.Prelude.{Option as Optional, None}
 use Rattle.std.specs.Bool.{then_some}
+use Rattle.std.specs.Option.{unwrap_or}
 use Rattle.tape.specs.Walk.{op_at, place_at, value_at}
 use Rattle.row07_limits.specs.declared.Room.{Room}
 use Rattle.part_lengths.specs.Parts.{Triple, before, held_in, both_of}
@@ -31,13 +32,10 @@ module _ (t : List ℕ) (i j p : ℕ) (h : i ≡ suc j) where
   unfolding before
   opens = rw h refl
 
-  pub sized_here : op_at t j ≡ 45 → Sized t i p (place_at t j, value_at t j)
+  pub sized_here : (b : Bool) → eqb (op_at t j) 45 ≡ b → Sized t i p (unwrap_or (then_some b (place_at t j, value_at t j)) (p, 1))
   unfolding size_in size_place_in
-  sized_here e = sym (ap (λ (l : List Triple). (size_place_in l p, size_in l)) opens ∙ simp (size_in, size_place_in, eq-eqb _ _ e))
-
-  pub sized_other : (op_at t j ≡ 45 → ⊥) → Sized t i p (p, 1)
-  unfolding size_in size_place_in
-  sized_other e = sym (ap (λ (l : List Triple). (size_place_in l p, size_in l)) opens ∙ simp (size_in, size_place_in, ne_eqb _ _ e))
+  sized_here true e = sym (ap (λ (l : List Triple). (size_place_in l p, size_in l)) opens ∙ simp (size_in, size_place_in, e))
+  sized_here false e = sym (ap (λ (l : List Triple). (size_place_in l p, size_in l)) opens ∙ simp (size_in, size_place_in, e))
 
 -- ---- an item's faults
 

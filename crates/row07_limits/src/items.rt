@@ -54,11 +54,7 @@ pub fn size_before(tape: &[u32], i: usize) -> Option<(u32, u32)>
     ensures { (p : ℕ) → unwrap_or result (p, 1) ≡ (size_place_in (before tape.now i) p, size_in (before tape.now i)) }
 {
     let j = i.checked_sub(1)?;
-    if tape[3 * j] == SIZE {
-        Some((tape[3 * j + 1], tape[3 * j + 2]))
-    } else {
-        None
-    }
+    (tape[3 * j] == SIZE).then_some((tape[3 * j + 1], tape[3 * j + 2]))
 }
 
 // Whether an item is one too many, or a number of copies too big.

@@ -33,6 +33,7 @@ use Rattle.row09_bindings.specs.Lines.{names_on}
 use Rattle.type_nodes.specs.Codes.{Env, env_in, port_of, value_or, value_of, number_node, capped, sought_in, some_nodes, port_nodes, want_nodes, signed_names, tally, counts_over, Slotted}
 use Rattle.row10_widths.specs.Row.{Asked, Settles}
 use Rattle.std.specs.Prelude.{Some, None}
+use Rattle.std.specs.Bool.{then_some}
 use Rattle.type_nodes.specs.declared.Counts.{Counts}
 use Rattle.type_nodes.specs.declared.Goal.TheVariants.{Port as PortAt, Memory as MemoryAt}
 use Rattle.row10_widths.proofs.Nodes.{nodes_code, number_node_law}
@@ -109,6 +110,10 @@ pub record Laid (a : Actor) (b : Bindings) (cells starts ends : List ℕ) (all :
   pub coded : Coded (terms_of a b) cells (take all starts) (take all ends)
   pub yes : (xs before : List ℕ) {g : Bool} → g ≡ true → Answer g (terms_of a b) xs → Settles a b (Some all) before (xs ++ drop all before)
   pub no : (xs before : List ℕ) {g : Bool} → g ≡ false → Answer g (terms_of a b) xs → Settles a b None before (xs ++ drop all before)
+
+pub settles : {a : Actor} {b : Bindings} {cells starts ends : List ℕ} {all : ℕ} → Laid a b cells starts ends all → (xs before : List ℕ) (g : Bool) → Answer g (terms_of a b) xs → Settles a b (then_some g all) before (xs ++ drop all before)
+settles r xs before true y = r.yes xs before refl y
+settles r xs before false y = r.no xs before refl y
 
 module _ (text t : List ℕ) (n : ℕ) (bound : Bound) {ws : List Word} {a : Actor} {b : Bindings} (low : n ≤ length t) (h : Asked text t n bound ws a b) where
   abbrev e : Env

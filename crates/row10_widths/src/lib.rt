@@ -44,8 +44,5 @@ pub fn solved(
         starts[i] = WORDS * i;
         ends[i] = WORDS * i + want_code(text, tape, n, bound, ports, i, &mut code);
     }
-    if typing::solve(&code, &starts[..all], &ends[..all], &mut widths[..all]) {
-        return Some(all);
-    }
-    None
+    typing::solve(&code, &starts[..all], &ends[..all], &mut widths[..all]).then_some(all)
 }

@@ -8,7 +8,7 @@ ghost use Rattle.item_writes.specs.Tables.{numbers_of, beginning, lets_after, va
 use crate::items::takes;
 use item_writes::writes::written;
 use item_writes::{Far, Given, Waits, grow, growth, without};
-use tape::{END, MEMORY, RULED, SIZE, VAL, wide};
+use tape::{END, MEMORY, RULED, SIZE, VAL};
 
 // Before the first item.
 pub fn begin() -> Far
@@ -96,7 +96,7 @@ pub fn step(
     let v = given.tape[3 * i + 2];
     let w = written(given, i, code, starts, far);
     let g = growth(given, i);
-    let left = without(starts, far.waits, wide(takes(op, v)));
+    let left = without(starts, far.waits, takes(op, v) as usize);
     let grown = grow(g, left, code, starts);
     Far {
         waits: grown,

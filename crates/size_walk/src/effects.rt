@@ -80,5 +80,5 @@ pub fn sooner(one: Option<u32>, other: Option<u32>) -> Option<u32>
 pub fn unless(holds: bool, at: u32) -> Option<u32>
     ensures { result ≡ unless_at holds at }
 {
-    if holds { None } else { Some(at) }
+    (!holds).then_some(at)
 }

@@ -10,7 +10,6 @@ ghost use Rattle.type_nodes.specs.Codes.{env_in, number_node, node_at, capped, g
 use bindings::Bound;
 use language::Type;
 use row09_bindings::found;
-use tape::wide;
 use type_nodes::{Goal, Role, kept, left, node, number_node, role_of, stops};
 
 const WORDS: usize = Type::WORDS as usize;
@@ -47,7 +46,7 @@ fn type_code(
     let mut len = 0;
     for i in 0..n / 3 {
         let role = role_of(tape[3 * i]);
-        if stops(text, g, role, wide(tape[3 * i + 1])) {
+        if stops(text, g, role, tape[3 * i + 1] as usize) {
             return kept(role, len);
         }
         len = grown(text, tape, bound, ports, i, role, code, at, len);
@@ -141,7 +140,7 @@ pub fn want_code(
 {
     let at = WORDS * i;
     if i < ports {
-        let place = wide(tape[3 * (i + 1) + 1]);
+        let place = tape[3 * (i + 1) + 1] as usize;
         return port_code(text, tape, n, bound, ports, place, code, at);
     }
     let len = type_code(

@@ -14,7 +14,7 @@ use language::Type;
 use row09_bindings::found;
 use tape::{
     CEIL, DECLARED, ENVIRONMENT, FLOOR, LOG, MEMORY, MINUS, NUMBER, Node, OR, PLUS, PORT, SIGNED,
-    SIZE, node_of, wide,
+    SIZE, node_of,
 };
 
 // What an item is to the declared types.
@@ -124,7 +124,7 @@ fn port_index(text: &[u8], tape: &[u32], ports: usize, place: usize) -> usize
     ensures { (result ≡ index (signed_names text.now tape.now 1 ports) (name_from text.now place)) × (result ≤ ports) }
 {
     for i in 0..ports {
-        if tape::same_name(text, wide(tape[3 * (i + 1) + 1]), place) {
+        if tape::same_name(text, tape[3 * (i + 1) + 1] as usize, place) {
             return i;
         }
     }
@@ -144,7 +144,7 @@ pub fn node(text: &[u8], tape: &[u32], bound: Bound, ports: usize, i: usize) -> 
     requires { (3 * i + 2 < length tape.now) × (3 * ports + 3 ≤ length tape.now) × (ports ≤ limits.ports) }
     ensures { result ≡ node_at (env_in text.now tape.now bound.entry ports) tape.now i }
 {
-    let place = wide(tape[3 * i + 1]);
+    let place = tape[3 * i + 1] as usize;
     match tape[3 * i] {
         NUMBER => number_node(tape[3 * i + 2]),
         ENVIRONMENT => {

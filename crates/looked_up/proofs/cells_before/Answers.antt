@@ -1,5 +1,5 @@
 -- `looked_up::cells_before` meets its contract: the cells counted and those of what is left are those of all. Assumes nothing.
-use mathlib.Core.Path.{ap, ◌∙◌}
+use mathlib.Core.Path.{ap}
 use Prim.Native.Nat.{◌+◌}
 use native.Mathlib.Omega.{arith}
 use Rattle.looked_up.proofs.Numbers.{Cells, cells_all, cells_enough, cells_end, cells_other, cells_more}
@@ -18,8 +18,7 @@ loop-i-preserved c =
     elim c.if-tape-i-eq-MEMORY.branch [
       | then-tape-i-eq-MEMORY w ↦
           let e = cells_more a.tape.now a.many l.i c.loop-i-test.true l.left w.if-tape-i-eq-MEMORY.true c.if-left-eq0.false in
-          let n = w.wide-sum.ensures ∙ w.size_before.ensures in
-          (omega (arith, w.size_before.type_inv, l.invariant.0), omega (arith, e, n, ap (Cells a.tape.now a.many (l.i + 1)) w.left-is, l.invariant.1))
+          (omega (arith, w.size_before.type_inv, l.invariant.0), omega (arith, e, w.size_before.ensures, ap (Cells a.tape.now a.many (l.i + 1)) w.left-is, l.invariant.1))
       | else-tape-i-eq-MEMORY w ↦ (omega arith, omega (arith, cells_other a.tape.now a.many l.i c.loop-i-test.true l.left w.if-tape-i-eq-MEMORY.false, ap (Cells a.tape.now a.many (l.i + 1)) w.left-is, l.invariant.1))
     ]
 

@@ -2,7 +2,6 @@
 use mathlib.Core.Path.{sym, ap, ◌∙◌}
 use Prim.Native.Nat.{ℕ}
 use mathlib.Core.List.{List}
-use Rattle.placed.specs.Placed.{name_from}
 use native.Mathlib.Omega.{arith}
 use Rattle.language.specs.Text.{same}
 use Rattle.looked_up.proofs.Numbers.{before_here, before_next, before_other, before_none}
@@ -16,10 +15,9 @@ returns-then-same_bytes c =
     let loop = c.loop-i in
     let loop-test = c.loop-i-test in
     let if1 = c.if-tape-i-eq-VAL in
-    let wide = c.wide-at in
     let s = c in
     let e = before_here s.args.text.now s.args.tape.now s.args.from s.args.called.now loop.i loop-test.true if1.true
-    (ap (λ (l : List ℕ). same l s.args.called.now) (sym (c.name.ensures ∙ ap (name_from s.args.text.now) wide.ensures))
+    (ap (λ (l : List ℕ). same l s.args.called.now) (sym c.name.ensures)
     ∙ sym c.same_bytes.ensures ∙ c.if-same_bytes.true)
     in
     omega (arith, e, loop.invariant.1)
@@ -29,10 +27,9 @@ loop-i-preserved-then-tape-i-eq-VAL c =
     let loop = c.loop-i in
     let loop-test = c.loop-i-test in
     let if1 = c.if-tape-i-eq-VAL in
-    let wide = c.wide-at in
     let s = c in
     let e = before_next s.args.text.now s.args.tape.now s.args.from s.args.called.now loop.i loop-test.true if1.true
-    (ap (λ (l : List ℕ). same l s.args.called.now) (sym (c.name.ensures ∙ ap (name_from s.args.text.now) wide.ensures))
+    (ap (λ (l : List ℕ). same l s.args.called.now) (sym c.name.ensures)
     ∙ sym c.same_bytes.ensures ∙ c.if-same_bytes.false)
     in
     (omega arith, omega (arith, e, loop.invariant.1))

@@ -12,5 +12,5 @@ pub returns : goal.returns
 returns c =
     let s = c in
     let l = named s.args.text.now s.args.tape.now s.args.op 0 s.args.many in
-    let e : c.number.result ≡ index l (name_from s.args.text.now s.args.place) = c.number.ensures ∙ ap (index l) (c.name.ensures ∙ ap (name_from s.args.text.now) c.wide.ensures) in
+    let e : c.number.result ≡ index l (name_from s.args.text.now s.args.place) = c.number.ensures ∙ ap (index l) c.name.ensures in
     (e, omega (arith, e, index_most (name_from s.args.text.now s.args.place) l, named_within s.args.text.now s.args.tape.now s.args.op 0 s.args.many))

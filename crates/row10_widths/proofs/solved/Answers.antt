@@ -5,7 +5,7 @@ use Prim.Native.Nat.{◌+◌, ◌*◌}
 use lib.ListN.{length, take, length-set, length-take}
 use Rattle.typing.specs.Solved.{terms_of}
 use Rattle.type_codes.proofs.Slots.{no_slots, one_slot}
-use Rattle.row10_widths.proofs.Whole.{few_declared, laid}
+use Rattle.row10_widths.proofs.Whole.{few_declared, laid, settles}
 use Rattle.row10_widths.proofs.solved.Goals as goal
 
 pub overflow_add-all : goal.overflow_add-all
@@ -68,16 +68,9 @@ solve-requires c =
       ws_len = omega arith;
     }
 
-pub returns-then-solve : goal.returns-then-solve
-returns-then-solve c = λ ws a b h.
-    let s = c in
-    let l = c.loop-i in
-    let r = laid s.args.text.now s.args.tape.now s.args.n s.args.bound s.requires.n_in_bounds.0 h c.declared-c.ensures l.code l.starts l.ends l.i (omega arith) l.invariant.6 l.invariant.3 l.invariant.4 l.invariant.5 in
-    r.yes _ _ c.if-solve.true (c.solve.ensures (terms_of a b) r.coded)
-
 pub returns : goal.returns
 returns c = λ ws a b h.
     let s = c in
     let l = c.loop-i in
     let r = laid s.args.text.now s.args.tape.now s.args.n s.args.bound s.requires.n_in_bounds.0 h c.declared-c.ensures l.code l.starts l.ends l.i (omega arith) l.invariant.6 l.invariant.3 l.invariant.4 l.invariant.5 in
-    r.no _ _ c.if-solve.false (c.solve.ensures (terms_of a b) r.coded)
+    rw c.then_some.ensures (settles r _ _ c.solve.result (c.solve.ensures (terms_of a b) r.coded))

@@ -18,14 +18,13 @@ returns-then-stops c =
     let loop = c.loop-i in
     let loop-test = c.loop-i-test in
     let role-of = c.role_of-role in
-    let wide = c.wide in
     record {
       few = let e = kept_most role-of.result loop.len in omega (arith, c.kept.ensures);
       is = ap
           (λ (j : ℕ). take j (drop args.at loop.code)) c.kept.ensures ∙ kept_take role-of.result loop.len (drop args.at loop.code) ∙
           search_stop args.tape.now args.n loop.i pre.n_in_bounds.0
           (env_in args.text.now args.tape.now args.bound args.ports) loop.g
-          (take loop.len (drop args.at loop.code)) loop-test.true role-of.ensures wide.ensures
+          (take loop.len (drop args.at loop.code)) loop-test.true role-of.ensures refl
           (sym c.stops.ensures ∙ c.if-stops.true) ∙ loop.invariant.3;
       before = loop.invariant.2;
       long = loop.invariant.1;
@@ -38,7 +37,6 @@ loop-i-preserved c =
     let loop = c.loop-i in
     let loop-test = c.loop-i-test in
     let role-of = c.role_of-role in
-    let wide = c.wide in
     let stops = c.stops in
     let if1 = c.if-stops in
     let grown = c.grown-len in (
@@ -47,7 +45,7 @@ loop-i-preserved c =
       grown.ensures.before ∙ loop.invariant.2,
       search_more args.tape.now
           args.n loop.i pre.n_in_bounds.0 (env_in args.text.now args.tape.now args.bound args.ports)
-          loop.g (take loop.len (drop args.at loop.code)) loop-test.true role-of.ensures wide.ensures
+          loop.g (take loop.len (drop args.at loop.code)) loop-test.true role-of.ensures refl
           (sym stops.ensures ∙ if1.false) c.left-g.ensures grown.ensures.is ∙ loop.invariant.3,
     )
 

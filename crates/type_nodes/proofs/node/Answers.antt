@@ -1,5 +1,6 @@
 -- `row10_widths::codes::node` meets its contract: by its operation, the node of the item. Assumes nothing.
 use native.Mathlib.Omega.{arith}
+use mathlib.Core.Path.{refl}
 use Rattle.std.proofs.lemmas.Grind.{common_steps}
 use Rattle.tape.specs.Walk.{op_at, place_at, value_at}
 use Rattle.type_nodes.specs.Codes.{env_in, node_of}
@@ -25,19 +26,17 @@ returns-in-1 c =
 pub returns-in-2 : goal.returns-in-2
 returns-in-2 c =
     let args = c.args in
-    let wide = c.wide-place in
     let match = c.in-2 in
     node_value (env_in args.text.now args.tape.now args.bound args.ports)
-    (op_at args.tape.now args.i) (place_at args.tape.now args.i) (value_at args.tape.now args.i) match.is c.end-end.ensures wide.ensures
+    (op_at args.tape.now args.i) (place_at args.tape.now args.i) (value_at args.tape.now args.i) match.is c.end-end.ensures refl
     c.number_node-in-2.ensures c.value_at.ensures c.found-line.ensures
 
 pub returns-in-3 : goal.returns-in-3
 returns-in-3 c =
     let args = c.args in
-    let wide = c.wide-place in
     node_port (env_in args.text.now args.tape.now args.bound args.ports)
     (op_at args.tape.now args.i) (place_at args.tape.now args.i) (value_at args.tape.now args.i) c.in-3.is
-    wide.ensures c.port_index.ensures.0
+    refl c.port_index.ensures.0
 
 pub returns-in-6 : goal.returns-in-6
 unfolding node_of

@@ -1,5 +1,5 @@
 -- `type_nodes::port_index` meets its contract: the ports passed have other names. Assumes nothing.
-use Rattle.std.proofs.Common.{◌≡◌, ℕ, arith, sym, ap, ◌+◌, ◌-◌, ◌∙◌}
+use Rattle.std.proofs.Common.{◌≡◌, ℕ, arith, refl, sym, ap, ◌+◌, ◌-◌, ◌∙◌}
 use Rattle.language.specs.Text.{index}
 use Rattle.placed.specs.Placed.{name_from}
 use Rattle.type_nodes.specs.Codes.{signed_names}
@@ -14,7 +14,7 @@ loop-i-init c =
 
 pub returns-then-same_name : goal.returns-then-same_name
 returns-then-same_name c = (
-  port_at_law c.args.text.now c.args.tape.now (name_from c.args.text.now c.args.place) c.loop-i.i c.args.ports c.loop-i-test.true c.wide.ensures
+  port_at_law c.args.text.now c.args.tape.now (name_from c.args.text.now c.args.place) c.loop-i.i c.args.ports c.loop-i-test.true refl
       (sym c.same_name.ensures ∙ c.if-same_name.true)
       ∙ c.loop-i.invariant,
   omega arith,
@@ -22,7 +22,7 @@ returns-then-same_name c = (
 
 pub loop-i-preserved : goal.loop-i-preserved
 loop-i-preserved c =
-    port_on c.args.text.now c.args.tape.now (name_from c.args.text.now c.args.place) c.loop-i.i c.args.ports c.loop-i-test.true c.wide.ensures
+    port_on c.args.text.now c.args.tape.now (name_from c.args.text.now c.args.place) c.loop-i.i c.args.ports c.loop-i-test.true refl
     (sym c.same_name.ensures ∙ c.if-same_name.false)
     ∙ c.loop-i.invariant
 

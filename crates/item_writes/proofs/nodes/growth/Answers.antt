@@ -1,5 +1,5 @@
 -- `item_writes::nodes::growth` meets its contract: each operation of a type does what it does. Assumes nothing.
-use mathlib.Core.Path.{◌∙◌}
+use mathlib.Core.Path.{refl}
 use native.Mathlib.Omega.{arith}
 use Rattle.item_writes.specs.Walk.{around_of}
 use Rattle.item_writes.specs.Tables.{grown_by}
@@ -8,12 +8,12 @@ use Rattle.item_writes.proofs.nodes.growth.Goals as goal
 
 pub returns-in-1 : goal.returns-in-1
 unfolding grown_by
-returns-in-1 c = λ ws l. grown_number _ _ _ _ l c.in-1.is _ _ c.wide.ensures c.leaf.ensures
+returns-in-1 c = λ ws l. grown_number _ _ _ _ l c.in-1.is _ _ refl c.leaf.ensures
 
 pub returns-in-2 : goal.returns-in-2
 unfolding grown_by around_of
 returns-in-2 c =
-    λ ws l. grown_bound _ _ _ _ l c.in-2.is _ _ (c.wide-in-2-2.ensures ∙ c.value-x.ensures ∙ rw c.wide-in-2.ensures) c.leaf-in-2.ensures
+    λ ws l. grown_bound _ _ _ _ l c.in-2.is _ _ c.value-x.ensures c.leaf-in-2.ensures
 
 pub returns-in-3 : goal.returns-in-3
 unfolding grown_by around_of

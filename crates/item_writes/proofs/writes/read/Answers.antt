@@ -16,7 +16,7 @@ pub returns-then-said : goal.returns-then-said
 unfolding numbers_of around_of
 returns-then-said c = λ btext table lines s el ev.
     let t = c in
-    let n = c.name-called.ensures ∙ ap (name_from t.args.given.text.now) c.wide.ensures in
+    let n = c.name-called.ensures in
     let e : among s.lets (name_from t.args.given.text.now t.args.place) ≡ true = ap₂ among el (sym n) ∙ sym c.said.ensures ∙ c.if-said.true in
     let f : c.latest-k.result ≡ index s.lets (name_from t.args.given.text.now t.args.place) = c.latest-k.ensures ∙ ap₂ index (sym el) n in
     let g : c.saturating_sub-slot.result ≡ s.vals - suc (index s.lets (name_from t.args.given.text.now t.args.place)) = omega (arith, f, ev, c.saturating_sub.ensures, c.saturating_sub-slot.ensures) in
@@ -27,7 +27,7 @@ pub returns : goal.returns
 unfolding numbers_of around_of
 returns c = λ btext table lines s el ev.
     let t = c in
-    let n = c.name-called.ensures ∙ ap (name_from t.args.given.text.now) c.wide.ensures in
+    let n = c.name-called.ensures in
     let e : among s.lets (name_from t.args.given.text.now t.args.place) ≡ false = ap₂ among el (sym n) ∙ sym c.said.ensures ∙ c.if-said.false in
     c.port.ensures.is btext table lines s
     ∙ sym (read_port (around_of t.args.given.text.now t.args.given.tape.now t.args.given.many btext table lines t.args.given.widths.now) s t.args.place e)

@@ -20,7 +20,7 @@ unfolding numbers_of around_of
 returns-then-said c =
     let t = c in
     let l = between t.args.given.text.now t.args.given.tape.now Class.Input 0 t.args.given.many in
-    let e : among l (name_from t.args.given.text.now t.args.place) ≡ true = sym (c.said.ensures ∙ ap (among l) (c.name.ensures ∙ ap (name_from t.args.given.text.now) c.wide.ensures)) ∙ c.if-said.true in
+    let e : among l (name_from t.args.given.text.now t.args.place) ≡ true = sym (c.said.ensures ∙ ap (among l) c.name.ensures) ∙ c.if-said.true in
     let w = c.width_of-w.ensures ∙ ap (λ (q : ℕ). get_or t.args.given.widths.now q 0) c.numbered.ensures.0 in
     record { is = λ btext table lines s. ap (λ (q : ℕ). six SIGNED t.args.place q 0 0 0) w ∙ sym (signed_input (around_of t.args.given.text.now t.args.given.tape.now t.args.given.many btext table lines t.args.given.widths.now) s t.args.place e) }
 
@@ -29,6 +29,6 @@ unfolding numbers_of around_of
 returns c =
     let t = c in
     let l = between t.args.given.text.now t.args.given.tape.now Class.Input 0 t.args.given.many in
-    let e : among l (name_from t.args.given.text.now t.args.place) ≡ false = sym (c.said.ensures ∙ ap (among l) (c.name.ensures ∙ ap (name_from t.args.given.text.now) c.wide.ensures)) ∙ c.if-said.false in
-    let w = c.wide-2.ensures ∙ c.width_of-w.ensures ∙ ap (λ (q : ℕ). get_or t.args.given.widths.now q 0) c.numbered.ensures.0 in
+    let e : among l (name_from t.args.given.text.now t.args.place) ≡ false = sym (c.said.ensures ∙ ap (among l) c.name.ensures) ∙ c.if-said.false in
+    let w = c.width_of-w.ensures ∙ ap (λ (q : ℕ). get_or t.args.given.widths.now q 0) c.numbered.ensures.0 in
     record { is = λ btext table lines s. ap (λ (q : ℕ). six SIGNED t.args.place q 0 0 0) (c.narrow.ensures ∙ ap (λ (q : ℕ). operand (q + 256)) w) ∙ sym (signed_output (around_of t.args.given.text.now t.args.given.tape.now t.args.given.many btext table lines t.args.given.widths.now) s t.args.place e) }

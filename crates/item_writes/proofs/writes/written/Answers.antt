@@ -1,8 +1,6 @@
 -- `item_writes::writes::written` meets its contract: each operation writes what it writes. Assumes nothing.
-use mathlib.Core.Path.{refl, sym, ap, ◌∙◌}
-use Prim.Native.Nat.{ℕ}
+use mathlib.Core.Path.{refl, sym, ◌∙◌}
 use native.Mathlib.Omega.{arith}
-use Rattle.sized_constants.specs.Constant.{constant_at, amount_of}
 use Rattle.item_writes.specs.Walk.{around_of}
 use Rattle.item_writes.specs.Tables.{state_of}
 use Rattle.item_writes.proofs.Writing.{written_given, written_value, written_read, written_cell, written_write, written_assign, written_present, written_memory, written_signed}
@@ -18,7 +16,7 @@ typed-requires c =
 
 pub returns-in-14 : goal.returns-in-14
 unfolding around_of
-returns-in-14 c = λ out. let t = c in c.amount.ensures _ (c.constant.ensures ∙ ap (λ (q : ℕ). amount_of (constant_at t.args.given.text.now q)) c.wide.ensures) ∙ sym (written_given _ _ _ _ _ c.in-14.is)
+returns-in-14 c = λ out. let t = c in c.amount.ensures _ c.constant.ensures ∙ sym (written_given _ _ _ _ _ c.in-14.is)
 
 pub returns-in-15 : goal.returns-in-15
 unfolding around_of

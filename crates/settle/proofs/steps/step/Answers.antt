@@ -54,7 +54,6 @@ returns c =
     let written = c.written-w in
     let growth = c.growth-g in
     let takes = c.takes in
-    let wide = c.wide in
     let the-without = c.without-left in
     let grow = c.grow-grown in
     let put = c.put in
@@ -94,7 +93,7 @@ returns c =
                 t.args.given.bound.lines t.args.given.widths.now)
                 o (place_at t.args.given.tape.now t.args.i) (value_at t.args.given.tape.now t.args.i))
                 (the-without.ensures.1 t.args.code.now ∙ ap
-                (λ (n : ℕ). without n (waits_in t.args.code.now t.args.starts.now t.args.far.waits)) (wide.ensures ∙ takes.ensures));
+                (λ (n : ℕ). without n (waits_in t.args.code.now t.args.starts.now t.args.far.waits)) takes.ensures);
             wrote = ap₂ (λ (n : ℕ) (x : List ℕ). take n x) out put.ensures.put ∙ stored t.args.out.now (numbers_of written.result)
                 t.args.far.out fits ∙ ap (λ (x : List ℕ). take t.args.far.out t.args.out.now ++ x) (written.ensures t.args.out.now);
             lets
