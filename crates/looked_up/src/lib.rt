@@ -62,13 +62,8 @@ pub fn count(tape: &[u32], many: usize, op: u32) -> usize
     requires { 3 * many ≤ length tape.now }
     ensures { (result ≤ many) × ((text : List ℕ) → result ≡ length (named text tape.now op 0 many)) }
 {
-    let mut k = 0;
-    for i in 0..many {
-        if tape[3 * i] == op {
-            k += 1;
-        }
-    }
-    k
+    let (triples, _) = tape[..3 * many].as_chunks::<3>();
+    triples.iter().filter(|&&[o, _, _]| o == op).count()
 }
 
 // How many `val`s, from one item on and before another, came after the latest one of a name; how many they are where none has it.
@@ -99,6 +94,7 @@ pub fn value(text: &[u8], place: usize, bound: Bound) -> u32
 }
 
 // The size that the item before i gives; 1 where it gives none.
+// No twin of row07_limits::size_before: that one answers with the place of the size and with nothing where none stands.
 #[tactic(auto, using(crate::proofs::Numbers::size_given_law, crate::proofs::Numbers::size_one), unfolding(crate::specs::Lookup::size_before))]
 fn size_before(tape: &[u32], i: usize) -> u32
     requires { 3 * i ≤ length tape.now }

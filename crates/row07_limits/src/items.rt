@@ -49,6 +49,7 @@ pub fn next(room: Room, op: u32, size: u32) -> Room
 }
 
 // The place and the value of the size that stands before item i, if one does.
+// No twin of looked_up::size_before: that one answers with the value alone, by its own definition of it.
 pub fn size_before(tape: &[u32], i: usize) -> Option<(u32, u32)>
     requires { 3 * i ≤ length tape.now }
     ensures { (p : ℕ) → unwrap_or result (p, 1) ≡ (size_place_in (before tape.now i) p, size_in (before tape.now i)) }
