@@ -18,15 +18,15 @@ use tests::fitting;
 // The rules that fire are one of each group.
 pub const GROUPS: usize = language::Plan::GROUPS as usize;
 
-// Why a cycle is refused.
+// Why a cycle is refused, by 01's number.
 #[derive(Clone, Copy, PartialEq, Eq)]
 pub enum Refusal {
-    Unsound,
-    Miscounted,
-    Unfit,
-    Unmatched,
-    Ambiguous,
-    Clash,
+    Unsound = 20,
+    Miscounted = 21,
+    Unfit = 22,
+    Unmatched = 23,
+    Ambiguous = 24,
+    Clash = 25,
 }
 
 // 01's number of a refusal.
@@ -37,14 +37,7 @@ impl From<Refusal> for u32 {
     ghost from_gives = { λ why number. number ≡ number_of why };
 
     fn from(why: Refusal) -> u32 {
-        match why {
-            Refusal::Unsound => 20,
-            Refusal::Miscounted => 21,
-            Refusal::Unfit => 22,
-            Refusal::Unmatched => 23,
-            Refusal::Ambiguous => 24,
-            Refusal::Clash => 25,
-        }
+        why as u32
     }
 }
 
