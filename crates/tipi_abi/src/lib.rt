@@ -4,16 +4,7 @@
 #![tactic(auto)]
 
 ghost use Rattle.std.specs.Prelude.{◌≡◌};
-ghost use Rattle.tipi_abi.specs.Numbers.{number_of, Numbered};
-
-use language::Text;
-
-#[tactic(auto, unfolding(crate::specs::Numbers::number_of))]
-fn number_of(which: Text) -> u32
-    ensures { result ≡ number_of which }
-{
-    which as u32
-}
+ghost use Rattle.tipi_abi.specs.Numbers.{Numbered};
 
 #[unsafe(no_mangle)]
 pub extern "C" fn tipi_read(
@@ -32,7 +23,7 @@ pub extern "C" fn tipi_read(
         }
         Err(why) => {
             told[0] = why.place;
-            told[1] = number_of(why.text);
+            told[1] = why.text as u32;
             why.row
         }
     }

@@ -4,11 +4,21 @@ use mathlib.Core.List.{List}
 use Prim.Native.Nat.{ℕ}
 use lib.ListN.{set}
 use Rattle.language.specs.declared.Refusal.{Refusal}
+use Rattle.language.specs.declared.Text.{Text}
+use Rattle.language.specs.declared.Text.TheVariants.{Actor, Bindings}
 use Rattle.std.specs.Prelude.{Ok, Err}
 use Rattle.tipi.specs.Told.{Read}
 use Rattle.plan_answer.specs.Answered.{Answer}
+use denote.Enum.Declared.{tag_of}
+use Rattle.language.specs.contracts.Text.{the_type}
 use Rattle.tipi_abi.specs.Numbers.{row_of, place_of, number_of, text_of, Numbered}
 use Rattle.tipi_abi.proofs.tipi_read.Goals as goal
+
+-- the number of a text is its variant's
+tagged : (t : Text) → tag_of the_type t ≡ number_of t
+unfolding number_of
+tagged Actor = refl
+tagged Bindings = refl
 
 -- a plan is told by 0, its length and 0
 plan_told : {text bindings before after told : List ℕ} {r : Answer} (n : ℕ) → r ≡ Ok n → Read text bindings r before after → Numbered text bindings 0 before after told (set (set told 0 n) 1 0)
@@ -27,4 +37,4 @@ pub returns-in-Ok : goal.returns-in-Ok
 returns-in-Ok c = plan_told _ c.in-Ok.is c.read.ensures
 
 pub returns-in-Err : goal.returns-in-Err
-returns-in-Err c = refusal_told _ _ c.in-Err.is c.number_of.ensures c.read.ensures
+returns-in-Err c = refusal_told _ _ c.in-Err.is (tagged _) c.read.ensures
