@@ -11,11 +11,10 @@ copy=$(mktemp -d)
 trap 'rm -rf "$copy"' EXIT
 cp -r crates crates.txt "$copy"
 mkdir -p "$copy/made" "$copy/crates/plan_lines/src"
-sed -n 's/^tipirun: \(.*\)/plan_lines: \1/p' crates.txt >>"$copy/crates.txt"
+sed -n 's/^tipirun: \(.*\)/plan_lines: \1 io/p' crates.txt >>"$copy/crates.txt"
 cat >"$copy/crates/plan_lines/src/main.rt" <<'END'
 // Each pair of texts on standard input, as `tipi::read` answers: 0 and the plan's numbers, or row, text and place.
 use language::Text;
-use tipi::Answer;
 
 const STDIN: i32 = 0;
 
@@ -63,14 +62,14 @@ fn show(plan: &[u32], n: usize) {
 fn told(actor: &[u8], bindings: &[u8]) {
     let mut plan = [0u32; 65600];
     match tipi::read(actor, bindings, &mut plan) {
-        Answer::Plan(length) => show(&plan, length as usize),
-        Answer::Refused(row, which, place) => {
-            say(row, b" ");
-            match which {
+        Ok(length) => show(&plan, length as usize),
+        Err(why) => {
+            say(why.row, b" ");
+            match why.text {
                 Text::Actor => say(0, b" "),
                 Text::Bindings => say(1, b" "),
             }
-            say(place, b"\n");
+            say(why.place, b"\n");
         }
     }
 }

@@ -41,7 +41,8 @@ impl<const CELLS: usize> Tables<CELLS> {
     // Before the first write the cells will be as they are.
     pub fn begin(&mut self, memory: &[u64])
         requires { length memory.now ≤ CELLS }
-        ensures { Writes memory.now self.new [] }
+        ensures after { Writes memory.now self.new [] }
+        ensures stack { self.new.stack ≡ self.old.stack }
     {
         let cells = memory.len();
         self.next[..cells].copy_from_slice(memory);

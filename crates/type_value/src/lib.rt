@@ -17,6 +17,14 @@ use language::Exact;
 // As many values wait at once as a type has words at most.
 const WORDS: usize = language::Type::WORDS as usize;
 
+// What stands where no value waits: zeros, which cost nothing to fill in.
+const VOID: Exact = Exact {
+    up: 0,
+    down: 0,
+    a: 0,
+    b: 0,
+};
+
 #[derive(Clone, Copy)]
 enum OnOne {
     Log,
@@ -175,7 +183,7 @@ fn value_at(code: &[u32], from: usize, end: usize, ws: &[u32]) -> Exact
         return number(0);
     }
     let mut waiting = Waiting {
-        values: [number(0); WORDS],
+        values: [VOID; WORDS],
         n: 0,
     };
     for i in from..end {

@@ -8,7 +8,9 @@ mod judge;
 ghost use Rattle.std.specs.Prelude.{◌≡◌, ◌+◌, ◌^◌, ◌≤◌, ◌<◌, length};
 
 // A byte that is no digit counts as 0.
-fn digit(b: u8) -> u32 {
+fn digit(b: u8) -> u32
+    ensures { result ≤ 9 }
+{
     if b.is_ascii_digit() {
         u32::from(b - b'0')
     } else {
@@ -17,11 +19,17 @@ fn digit(b: u8) -> u32 {
 }
 
 // Field k of the text; 0 where there is none.
-fn field(s: &[u8], k: usize) -> u32 {
+fn field(s: &[u8], k: usize) -> u32
+    ensures { result ≤ 999999 }
+{
     if 20000 < k || s.len() < k * 7 + 6 {
         return 0;
     }
-    s[k * 7..k * 7 + 6].iter().fold(0u32, |n, b| n.saturating_mul(10).saturating_add(digit(*b)))
+    let mut n = 0;
+    for i in 0..6 {
+        n = n * 10 + digit(s[k * 7 + i]);
+    }
+    n
 }
 
 // The fields from field k on, each as `stored` makes it.

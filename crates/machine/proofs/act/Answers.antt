@@ -13,7 +13,7 @@ run_rules-requires g c =
       search rules,
       (
         part_fires c.args.plan.now c.args.values.now c.args.memory.now c.args.fired.now c.place-groups.result k c.requires.plan_bound.1 c.requires.by_index,
-        (part_long c.args.outputs.now c.place-ports.result (port_count c.args.plan.now) 16 c.requires.outputs_value n c.requires.plan_bound.0, (c.requires.tables, c.begin.ensures)),
+        (part_long c.args.outputs.now c.place-ports.result (port_count c.args.plan.now) 16 c.requires.outputs_value n c.requires.plan_bound.0, (c.requires.tables, c.begin.ensures.after)),
       ),
     )
 

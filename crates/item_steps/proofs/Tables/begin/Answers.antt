@@ -8,8 +8,8 @@ use lib.Seq.{length-take-le}
 use Rattle.item_steps.proofs.Writes.{prepared}
 use Rattle.item_steps.proofs.Tables.begin.Goals as goal
 
-pub returns : goal.returns
-returns g c =
+pub returns-clause-after : goal.returns-clause-after
+returns-clause-after g c =
     let memory = c.args.memory.now in
     let changed = c.args.self.now.changed in
     let n : length (take (length memory) changed) ≡ length memory = length-take-le (length memory) changed (omega arith) in
