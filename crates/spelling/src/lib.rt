@@ -90,5 +90,5 @@ fn some_plain(run: &[u8]) -> bool
 pub fn good_name(run: &[u8]) -> bool
     ensures { result ≡ good_name run.now }
 {
-    some_plain(run) && run.len() <= NAME && KEYWORDS <= spelled(run)
+    run.len() <= NAME && some_plain(run) && KEYWORDS <= spelled(run)
 }
