@@ -5,11 +5,13 @@ use mathlib.Core.List.{List, [], ◌∷◌}
 use Prim.Native.Nat.{ℕ, suc, ◌+◌, ◌-◌, ◌≤◌, ◌<◌}
 use native.Mathlib.Omega.{arith}
 use native.Mathlib.Numerals.{add-one}
-use lib.Dec.{eqb}
+use lib.Dec.{leb, eqb}
 use lib.ListN.{length, take, drop, get_or, drop_of_length-le, length-drop}
 use lib.Seq.{drop-cons, take_all}
 use borrow.Author.Tests.{le-leb}
 use Rattle.std.specs.List.{prefix_len, starts_with}
+use Rattle.std.proofs.lemmas.Bool.Decides.{nat_tests}
+use Rattle.std.proofs.lemmas.List.{get_or-drop}
 use Rattle.std.proofs.lemmas.List.Sums.{prefix_len-le-length}
 use Rattle.std.proofs.lemmas.List.Folds.{length-prefix_len}
 use Rattle.language.specs.Words.{begins, span, name_byte, digit_of}
@@ -91,6 +93,18 @@ begins_length (a ∷ s) (b ∷ bs) e = let h = begins_length s bs (right (eqb a 
     right : (x y : Bool) → (x && y) ≡ true → y ≡ true
     right true y e = e
     right false y e = never (sym e)
+
+-- both stand there where there is room for two, and each is the byte there
+pair_of : (a b : ℕ) (s : List ℕ) → begins (a ∷ b ∷ []) s ≡ (leb 2 (length s) && eqb (get_or s 0 0) a && eqb (get_or s 1 0) b)
+unfolding begins
+pair_of a b [] = grind (arith, nat_tests)
+pair_of a b (x ∷ []) = grind (arith, nat_tests)
+pair_of a b (x ∷ y ∷ s) = grind (arith, nat_tests)
+
+pub pair_is : (text : List ℕ) (at a b : ℕ) → begins (a ∷ b ∷ []) (drop at text) ≡ (leb 2 (length text - at) && eqb (get_or text at 0) a && eqb (get_or text (at + 1) 0) b)
+pair_is text at a b =
+    let first : get_or (drop at text) 0 0 ≡ get_or text at 0 = get_or-drop at text 0 0 ∙ ap (λ (i : ℕ). get_or text i 0) (omega arith) in
+    rw (← length-drop at text, ← first, ← get_or-drop at text 1 0) (pair_of a b (drop at text))
 
 pub pair_room : (text : List ℕ) (at a b : ℕ) → at ≤ length text → begins (a ∷ b ∷ []) (drop at text) ≡ true → at + 2 ≤ length text
 pair_room text at a b h e = let k = begins_length (a ∷ b ∷ []) (drop at text) e in omega (arith, k, length-drop at text)

@@ -59,11 +59,12 @@ pub fn span(text: &[u8], at: usize, class: Class) -> usize
 }
 
 // Whether two bytes stand at a place.
+#[tactic(auto, using(crate::proofs::Spans::pair_is))]
 pub fn pair(text: &[u8], at: usize, a: u8, b: u8) -> bool
     requires { at ≤ length text.now }
     ensures { result ≡ begins (a ∷ b ∷ []) (drop at text.now) }
 {
-    text[at..].starts_with(&[a, b])
+    2 <= text.len() - at && text[at] == a && text[at + 1] == b
 }
 
 // At most so many bytes from a place on.
