@@ -222,7 +222,7 @@ pub ruleset name_laws = (name_row, name_good, name_bad)
 
 -- ---- a name after separators
 
-named_none : (r : List ℕ) → gap r ≡ 0 → named_next r ≡ false
+pub named_none : (r : List ℕ) → gap r ≡ 0 → named_next r ≡ false
 unfolding named_next
 named_none r e = simp (named_next, e)
 

@@ -33,8 +33,11 @@ fn named(text: &[u8], at: usize) -> bool
     requires { at ≤ length text.now }
     ensures { result ≡ named_next (drop at text.now) }
 {
+    if gaps::gap(text, at) == 0 {
+        return false;
+    }
     let p = gaps::after_gaps(text, at);
-    gaps::gap(text, at) != 0 && p < text.len() && !spelling::is_digit(text[p]) && own_name(text, p)
+    p < text.len() && !spelling::is_digit(text[p]) && own_name(text, p)
 }
 
 // The kind of a fixed word that is spelled like a name. The keywords' kinds go in the order of the words, so that no table of all is plainer.
