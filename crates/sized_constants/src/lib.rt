@@ -21,6 +21,7 @@ pub fn base(b: u8) -> usize
 }
 
 // The value with one digit more; none where 64 bits do not hold it, and what is too big stays so.
+#[tactic(auto, unfolding(crate::specs::Constant::amount_of))]
 fn raised(base: usize, v: Option<u64>, b: u8) -> Option<u64>
     requires { (base ≤ most_base) × (digit_in base b ≡ true) }
     ensures { (n : ℕ) → v ≡ amount_of n → result ≡ amount_of (n * base + digit_of b) }

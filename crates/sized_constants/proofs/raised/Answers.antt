@@ -1,6 +1,6 @@
 -- `sized_constants::raised` meets its contract. Assumes nothing.
 use Rattle.std.proofs.Common.{arith, sym, ◌∙◌}
-use Rattle.sized_constants.proofs.Sized.{plain_of, below_of, raised_big, exact_is, amount_big, amount_told}
+use Rattle.sized_constants.proofs.Sized.{plain_of, below_of, raised_big, exact_is, amount_big}
 use Rattle.sized_constants.proofs.raised.Goals as goal
 
 pub digit_of-digit-requires : goal.digit_of-digit-requires
@@ -14,8 +14,3 @@ returns-in_err-checked_mul c = λ n e.
     let q = exact_is _ n (sym c.in_ok-v.was ∙ e) in
     let over = c.in_err-checked_mul.ensures in
     c.from_residual-in_err-checked_mul.ensures ∙ rw q (sym (amount_big _ (omega arith)))
-
-pub returns : goal.returns
-returns c = λ n e.
-    let q = exact_is _ n (sym c.in_ok-v.was ∙ e) in
-    rw (q, ← c.in_ok-checked_mul.ensures.1, ← c.digit_of-digit.ensures.0) (amount_told _ c.checked_add.ensures)
