@@ -155,6 +155,7 @@ pub fn same_name(text: &[u8], p: usize, q: usize) -> bool
 
 // Whether an item is of a class. One table here and no closures: the contracts name the class (`names_on` of specs/).
 #[tactic(auto, unfolding(crate::specs::Walk::hit))]
+#[inline(always)]
 fn is(class: Class, op: u32, value: u32) -> bool
     ensures { result ≡ hit class op value }
 {
@@ -172,8 +173,9 @@ fn is(class: Class, op: u32, value: u32) -> bool
     }
 }
 
-// Whether an item of a class, from one item on and before another, has a name.
-pub fn said(text: &[u8], tape: &[u32], from: usize, to: usize, class: Class, called: &[u8]) -> bool
+// What `said` says where the class is known: in line, so that the loop tests that class alone.
+#[inline(always)]
+fn said_as(text: &[u8], tape: &[u32], from: usize, to: usize, class: Class, called: &[u8]) -> bool
     requires { (from ≤ to) × (3 * to ≤ length tape.now) }
     ensures { result ≡ among (between text.now tape.now class from to) called.now }
 {
@@ -185,4 +187,24 @@ pub fn said(text: &[u8], tape: &[u32], from: usize, to: usize, class: Class, cal
         }
     }
     false
+}
+
+// Whether an item of a class, from one item on and before another, has a name.
+// The class is told apart here, once, and not at each item: each arm has a loop of its own.
+pub fn said(text: &[u8], tape: &[u32], from: usize, to: usize, class: Class, called: &[u8]) -> bool
+    requires { (from ≤ to) × (3 * to ≤ length tape.now) }
+    ensures { result ≡ among (between text.now tape.now class from to) called.now }
+{
+    match class {
+        Class::Signed => said_as(text, tape, from, to, Class::Signed, called),
+        Class::Declared => said_as(text, tape, from, to, Class::Declared, called),
+        Class::Input => said_as(text, tape, from, to, Class::Input, called),
+        Class::Output => said_as(text, tape, from, to, Class::Output, called),
+        Class::Taken => said_as(text, tape, from, to, Class::Taken, called),
+        Class::Present => said_as(text, tape, from, to, Class::Present, called),
+        Class::Val => said_as(text, tape, from, to, Class::Val, called),
+        Class::Required => said_as(text, tape, from, to, Class::Required, called),
+        Class::Assigned => said_as(text, tape, from, to, Class::Assigned, called),
+        Class::Environment => said_as(text, tape, from, to, Class::Environment, called),
+    }
 }

@@ -1,9 +1,9 @@
--- `tape::said` meets its contract: what is left of the items answers as all of them. Assumes nothing.
+-- `tape::said_as` meets its contract: what is left of the items answers as all of them. Assumes nothing.
 use Rattle.std.proofs.Common.{arith, sym, ap, ◌∙◌, List, ℕ}
 use Rattle.language.specs.Text.{same}
 use Rattle.tape.proofs.Walks.{said_here, said_next, said_other, said_none}
-use Rattle.tape.proofs.said.Goals as goal
-use Rattle.tape.proofs.said.Goals.{else-is-via-then-is+else-same_bytes, else-is-via-else-is}
+use Rattle.tape.proofs.said_as.Goals as goal
+use Rattle.tape.proofs.said_as.Goals.{else-is-via-then-is+else-same_bytes, else-is-via-else-is}
 
 pub returns-then-same_bytes : goal.returns-then-same_bytes
 returns-then-same_bytes c =
