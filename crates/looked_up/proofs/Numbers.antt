@@ -6,10 +6,7 @@ use Prim.Native.Nat.{ℕ, zero, suc, ◌+◌, ◌*◌, ◌-◌, ◌≤◌, ◌<�
 use native.Mathlib.Omega.{arith}
 use native.Mathlib.Numerals.{add-one}
 use lib.Dec.{eqb}
-use lib.ListN.{length, get_or, take, drop}
-use Rattle.std.proofs.lemmas.List.{get_or-take, get_or-drop}
-use Rattle.std.specs.List.{filter}
-use Rattle.std.specs.Simd.{first_chunks}
+use lib.ListN.{length, get_or, take}
 use borrow.Author.Tests.{eq-eqb, ne_eqb, le-ltb}
 use Rattle.language.specs.Text.{same, index, among}
 use Rattle.language.specs.Tree.{spelled_of}
@@ -58,24 +55,25 @@ module _ (text t : List ℕ) (o to : ℕ) (s : List ℕ) where
 
 -- ---- how many they are
 
--- an item of three numbers has the operation
-abbrev pub is_op : ℕ → List ℕ → Bool
-is_op o item = eqb (get_or item 0 0) o
+module _ (text t : List ℕ) (o to : ℕ) where
+  -- how many items from item i on have the operation
+  abbrev pub Many : ℕ → ℕ
+  Many i = length (named text t o i (to - i))
 
-pub counted : (text t : List ℕ) (o k from : ℕ) (l : List ℕ) → ((j : ℕ) → j < 3 * k → get_or l j 0 ≡ get_or t (3 * from + j) 0) → length (filter (is_op o) (first_chunks 3 k l)) ≡ length (named text t o from k)
-unfolding named add
-counted text t o zero from l h = refl
-counted text t o (suc k) from l h = go (eqb (op_at t from) o) (ap (λ (n : ℕ). eqb n o) first) refl (counted text t o k (suc from) (drop 3 l) later)
-  where
-    first : get_or (take 3 l) 0 0 ≡ op_at t from
-    first = let z : 3 * from + 0 ≡ 3 * from = omega arith in get_or-take 3 l 0 0 (omega arith) ∙ h 0 (omega arith) ∙ ap (λ (n : ℕ). get_or t n 0) z
+  pub many_other : (i : ℕ) → i < to → (op_at t i ≡ o → ⊥) → Many i ≡ Many (i + 1)
+  unfolding add
+  many_other i h n = ap length (first text t o to [] i h) ∙ simp (add, ne_eqb (op_at t i) o n)
 
-    later : (j : ℕ) → j < 3 * k → get_or (drop 3 l) j 0 ≡ get_or t (3 * suc from + j) 0
-    later j q = let z : 3 * from + (3 + j) ≡ 3 * suc from + j = omega arith in get_or-drop 3 l j 0 ∙ h (3 + j) (omega arith) ∙ ap (λ (n : ℕ). get_or t n 0) z
+  pub many_next : (i : ℕ) → i < to → op_at t i ≡ o → Many i ≡ suc (Many (i + 1))
+  unfolding add
+  many_next i h e = ap length (first text t o to [] i h) ∙ simp (add, eq-eqb (op_at t i) o e)
 
-    go : (b : Bool) → eqb (get_or (take 3 l) 0 0) o ≡ eqb (op_at t from) o → eqb (op_at t from) o ≡ b → length (filter (is_op o) (first_chunks 3 k (drop 3 l))) ≡ length (named text t o (suc from) k) → length (filter (is_op o) (take 3 l ∷ first_chunks 3 k (drop 3 l))) ≡ length (add (eqb (op_at t from) o) (name_from text (place_at t from)) (named text t o (suc from) k))
-    go true e f r = rw (e, f) (ap suc r)
-    go false e f r = rw (e, f) r
+  pub many_none : (i : ℕ) → to ≤ i → Many i ≡ 0
+  unfolding named
+  many_none i h = let e : to - i ≡ 0 = omega arith in rw e
+
+  pub many_all : Many 0 ≡ length (named text t o 0 to)
+  many_all = let e : to - 0 ≡ to = omega arith in ap (λ (n : ℕ). length (named text t o 0 n)) e
 
 pub named_within : (text t : List ℕ) (o from n : ℕ) → length (named text t o from n) ≤ n
 unfolding named add

@@ -62,8 +62,13 @@ pub fn count(tape: &[u32], many: usize, op: u32) -> usize
     requires { 3 * many ≤ length tape.now }
     ensures { (result ≤ many) × ((text : List ℕ) → result ≡ length (named text tape.now op 0 many)) }
 {
-    let (triples, _) = tape[..3 * many].as_chunks::<3>();
-    triples.iter().filter(|&&[o, _, _]| o == op).count()
+    let mut k = 0;
+    for i in 0..many {
+        if tape[3 * i] == op {
+            k += 1;
+        }
+    }
+    k
 }
 
 // How many `val`s, from one item on and before another, came after the latest one of a name; how many they are where none has it.

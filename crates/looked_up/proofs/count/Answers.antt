@@ -1,20 +1,22 @@
--- `looked_up::count` meets its contract: the items that have the operation are as many as the names on them. Assumes nothing.
-use Rattle.std.proofs.Common.{◌≡◌, ℕ, List, [], ◌∙◌, ◌+◌, ◌*◌, ◌/◌, ap, rules, tests, arith, length, take, get_or}
-use Rattle.std.proofs.lemmas.Iterator.{YieldsList-from_slice}
-use Rattle.std.proofs.lemmas.Iterator.Consumers.{YieldsList-from_filter, count_from_yields_List}
-use Rattle.std.proofs.lemmas.List.{get_or-take}
-use lib.ListN.{length-take}
-use Rattle.std.specs.List.{filter}
-use Rattle.std.specs.Simd.{first_chunks}
-use Rattle.looked_up.proofs.Numbers.{is_op, counted, named_within}
+-- `looked_up::count` meets its contract: the items counted and those of what is left are all. Assumes nothing.
+use native.Mathlib.Omega.{arith}
+use Rattle.looked_up.proofs.Numbers.{many_other, many_next, many_none, many_all}
 use Rattle.looked_up.proofs.count.Goals as goal
+use Rattle.looked_up.proofs.count.Goals.{then-tape-i, else-tape-i}
+
+pub loop-i-init : goal.loop-i-init
+loop-i-init c = (omega arith, λ text. omega arith)
+
+pub loop-i-preserved : goal.loop-i-preserved
+loop-i-preserved c =
+    let a = c.args in
+    let i = c.loop-i.i in
+    elim c.if-tape-i.branch [
+      | then-tape-i w ↦ (omega arith, λ text. omega (arith, many_next text a.tape.now a.op a.many i c.loop-i-test.true w.if-tape-i.true, c.loop-i.invariant.1 text))
+      | else-tape-i w ↦ (omega arith, λ text. omega (arith, many_other text a.tape.now a.op a.many i c.loop-i-test.true w.if-tape-i.false, c.loop-i.invariant.1 text))
+    ]
 
 pub returns : goal.returns
 returns c =
     let a = c.args in
-    let l = take (3 * a.many) a.tape.now in
-    let n : length l / 3 ≡ a.many = omega (arith, length-take (3 * a.many) a.tape.now, c.requires) in
-    let e = count_from_yields_List _ c.count.result c.count.ensures.ran (YieldsList-from_filter _ (is_op a.op) (YieldsList-from_slice c.as_chunks.result.0.now cc) c.filter.ensures.closure (λ x b q k. search (rules, tests)))
-    ∙ ap (λ (x : List (List ℕ)). length (filter (is_op a.op) x)) (c.as_chunks.ensures.front ∙ ap (λ (k : ℕ). first_chunks 3 k l) n) in
-    let f = λ (text : List ℕ). e ∙ counted text a.tape.now a.op a.many 0 l (λ j q. let z : j ≡ 3 * 0 + j = omega arith in get_or-take (3 * a.many) a.tape.now j 0 q ∙ ap (λ (x : ℕ). get_or a.tape.now x 0) z) in
-    (omega (arith, f [], named_within [] a.tape.now a.op 0 a.many), f)
+    (omega arith, λ text. omega (arith, many_none text a.tape.now a.op a.many c.loop-i.i (omega arith), many_all text a.tape.now a.op a.many, c.loop-i.invariant.1 text))
