@@ -13,11 +13,9 @@ use Rattle.figures.specs.declared.Stage.{Stage}
 use Rattle.figures.specs.declared.Stage.TheVariants.{ActorCount, Actor, BindingsCount, Bindings, CycleCount, Line, Through, Wrong, Stopped}
 use Rattle.figures.specs.declared.State.{State}
 use Rattle.figures.specs.States.{start_of, wrong_of, takes_of, longer_of}
-use Rattle.input_bytes.specs.declared.tables.Tables.{Tables}
-use Rattle.input_bytes.specs.Tables.{SameTexts}
 use Rattle.input_bytes.specs.Texts.{count_byte, actor_byte, bindings_byte}
 use Rattle.input_bytes.specs.Lines.{Lined, Left, standing, line_byte}
-use Rattle.input_bytes.specs.Bytes.{Machine, machine, machine_of, lined, stated, moved_at, moved_of, TablesStand}
+use Rattle.input_bytes.specs.Bytes.{Machine, machine, lined, stated, moved_at, moved_of, TablesStand}
 
 abbrev pub place_of : State → ℕ
 place_of s = s.at
@@ -99,9 +97,3 @@ module _ (s : State) (a b p v o m : List ℕ) (c : ℕ) where
   read_no_more out (inl e) = rests Through out e refl
   read_no_more out (inr (inl e)) = rests Wrong out e refl
   read_no_more out (inr (inr (x, y, e))) = rests (Stopped x y) out e refl
-
--- the texts and the plan are as they were
-pub kept : (r : State) (old new : Tables) → SameTexts old new → machine r old.actor old.bindings old.plan new.values new.outputs new.memory [] ≡ machine_of r new
-kept r old new e =
-    ap₂ (λ (x y : List ℕ). machine r x y old.plan new.values new.outputs new.memory []) (sym e.actor) (sym e.bindings)
-    ∙ ap (λ (x : List ℕ). machine r new.actor new.bindings x new.values new.outputs new.memory []) (sym e.plan)

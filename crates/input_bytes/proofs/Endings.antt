@@ -12,8 +12,9 @@ use lib.Seq.{take_all}
 use Rattle.language.specs.Worked.{line, is_bad}
 use Rattle.figures.specs.declared.Stage.{Stage}
 use Rattle.figures.specs.declared.Stage.TheVariants.{ActorCount, Actor, BindingsCount, Bindings, CycleCount, Line, Through, Wrong, Stopped}
+use Rattle.figures.specs.declared.State.{State}
 use Rattle.input_bytes.specs.Lines.{cells_of}
-use Rattle.input_bytes.specs.Bytes.{Machine, ended_at, ended_of}
+use Rattle.input_bytes.specs.Bytes.{Machine, machine, ended_at, ended_of}
 
 -- the part of a table that a number says, or all of it
 pub take_least : (k n : ℕ) (l : List ℕ) → n ≡ min k (length l) → take n l ≡ take k l
@@ -45,3 +46,19 @@ any_bad m (inr (inr (inr (inl e)))) = ended_bad m Bindings e refl
 any_bad m (inr (inr (inr (inr (inl e))))) = ended_bad m CycleCount e refl
 any_bad m (inr (inr (inr (inr (inr (inl e)))))) = ended_bad m Line e refl
 any_bad m (inr (inr (inr (inr (inr (inr e)))))) = ended_bad m Wrong e refl
+
+-- the end asks of the tables only the plan and the cells
+pub ended_alone : (s : State) (a b p v o m : List ℕ) → ended_of (machine s [] [] p [] [] m []) ≡ ended_of (machine s a b p v o m [])
+unfolding ended_of
+ended_alone s a b p v o m = go s.stage
+  where
+    go : (g : Stage) → ended_at g (machine s [] [] p [] [] m []) ≡ ended_at g (machine s a b p v o m [])
+    go ActorCount = refl
+    go Actor = refl
+    go BindingsCount = refl
+    go Bindings = refl
+    go CycleCount = refl
+    go Line = refl
+    go Through = refl
+    go Wrong = refl
+    go (Stopped n r) = refl

@@ -6,7 +6,6 @@ use Rattle.language.specs.Meaning.{Outcome}
 use Rattle.plan.specs.Layout.{port_at, memory_count, cells_before}
 use Rattle.turn.specs.Cycle.{cycle_of}
 use Rattle.turn.specs.declared.Done.{Done}
-use Rattle.input_bytes.specs.declared.tables.Tables.{Tables}
 use Rattle.cycle_line.specs.Shown.{line_bytes, ports_of, shown_of}
 use Rattle.figures.specs.declared.Stage.TheVariants.{Line}
 use Rattle.figures.specs.declared.State.{State}
@@ -36,10 +35,6 @@ pub record Lined : Type 0 where
 abbrev pub standing : State → List ℕ → List ℕ → List ℕ → Lined
 standing s values outputs memory = record { state = s; values = values; outputs = outputs; memory = memory; wrote = [] }
 
--- a state and the tables, with nothing written
-abbrev pub standing_of : State → Tables → Lined
-standing_of s t = standing s t.values t.outputs t.memory
-
 -- `after` and the table of bytes are what a function leaves, by what a byte of a line leaves
 pub record Left (x : Lined) (old : List ℕ) (at : ℕ) (after : Lined) (out : List ℕ) : Type 0 where
   pub stands : after.state ≡ x.state
@@ -49,6 +44,13 @@ pub record Left (x : Lined) (old : List ℕ) (at : ℕ) (after : Lined) (out : L
   pub bytes : out ≡ sets old at x.wrote
   pub place : after.state.at ≡ at + length x.wrote
   pub short : length x.wrote ≤ line_bytes
+
+-- the tables that lines are read into have room
+pub record Roomy (values outputs memory out : List ℕ) (at : ℕ) : Type 0 where
+  pub ports : limits.ports ≤ length values
+  pub slots : limits.ports ≤ length outputs
+  pub cells : limits.cells ≤ length memory
+  pub room : at + line_bytes ≤ length out
 
 -- ---- a number of the line has ended as n
 

@@ -2,12 +2,11 @@
 ghost use Rattle.std.specs.Prelude.{[], ◌∷◌, ◌+◌, ◌*◌, ◌≤◌, length};
 ghost use Rattle.cycle_line.specs.Shown.{cells_bytes};
 ghost use Rattle.figures.specs.Written.{number_bytes};
+ghost use Rattle.language.specs.Limits.{limits};
 ghost use Rattle.language.specs.Worked.{line, is_bad};
 ghost use Rattle.figures.specs.Written.{Wrote, blanked};
-ghost use Rattle.input_bytes.specs.Bytes.{machine_of, ended_of};
-ghost use Rattle.input_bytes.specs.Tables.{SameButOut};
+ghost use Rattle.input_bytes.specs.Bytes.{machine, ended_of};
 
-use crate::tables::Tables;
 use crate::turns::{cells, planned};
 use figures::{Stage, State, next_number, number, put, text};
 
@@ -56,23 +55,22 @@ fn show_bad(out: &mut [u8], at: usize) -> usize
 }
 
 // The input has ended, or no more of it is read.
-pub fn ended(s: State, tables: &mut Tables) -> usize
-    requires { s.at + cells_bytes ≤ length tables.old.out }
-    ensures written { Wrote tables.old.out s.at (ended_of (machine_of s tables.old)) cells_bytes result tables.new.out }
-    ensures others { SameButOut tables.old tables.new }
+pub fn ended(s: State, plan: &[u32], memory: &[u64], out: &mut [u8]) -> usize
+    requires { (limits.cells ≤ length memory.now) × (s.at + cells_bytes ≤ length out.old) }
+    ensures { Wrote out.old s.at (ended_of (machine s [] [] plan.now [] [] memory.now [])) cells_bytes result out.new }
 {
     match s.stage {
         Stage::Through => {
-            let n = cells(planned(&tables.plan, s.plan));
-            show_cells(&tables.memory[..n], &mut tables.out, s.at)
+            let n = cells(planned(plan, s.plan));
+            show_cells(&memory[..n], out, s.at)
         }
-        Stage::Stopped(row, place) => show_refusal(row, place, &mut tables.out, s.at),
+        Stage::Stopped(row, place) => show_refusal(row, place, out, s.at),
         Stage::ActorCount
         | Stage::Actor
         | Stage::BindingsCount
         | Stage::Bindings
         | Stage::CycleCount
         | Stage::Line
-        | Stage::Wrong => show_bad(&mut tables.out, s.at),
+        | Stage::Wrong => show_bad(out, s.at),
     }
 }

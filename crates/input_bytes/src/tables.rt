@@ -1,5 +1,9 @@
 // The tables of a run.
-ghost use Rattle.std.specs.Prelude.{◌≡◌};
+ghost use Rattle.std.specs.Prelude.{◌≡◌, ◌+◌, ◌≤◌, length};
+ghost use Rattle.cycle_line.specs.Shown.{line_bytes, cells_bytes};
+ghost use Rattle.figures.specs.Written.{Wrote};
+
+use figures::State;
 
 // One byte more than a text may have: so that one over its limit is told from one at it.
 const ACTOR: usize = language::Actor::BYTES as usize + 1;
@@ -29,7 +33,8 @@ pub struct Tables {
 }
 
 impl Tables {
-    ghost use Rattle.input_bytes.specs.Tables.{empty_tables};
+    ghost use Rattle.input_bytes.specs.Tables.{empty_tables, SameButOut};
+    ghost use Rattle.input_bytes.specs.Bytes.{machine_of, moved_of, ended_of, TablesStand};
 
     pub fn new() -> Tables
         ensures { result ≡ empty_tables }
@@ -43,5 +48,32 @@ impl Tables {
             memory: [0; CELLS],
             out: [0; OUT],
         }
+    }
+
+    // What a byte does at each stage, with these tables.
+    pub fn moved(&mut self, s: State, b: u8) -> State
+        requires { s.at + line_bytes ≤ length self.old.out }
+        ensures { TablesStand (moved_of (machine_of s self.old) b) self.old.out s.at line_bytes (machine_of result self.new) self.new.out }
+    {
+        crate::moved(
+            s,
+            b,
+            &mut self.actor,
+            &mut self.bindings,
+            &self.plan,
+            &mut self.values,
+            &mut self.outputs,
+            &mut self.memory,
+            &mut self.out,
+        )
+    }
+
+    // The input has ended, or no more of it is read: only `out` is written.
+    pub fn ended(&mut self, s: State) -> usize
+        requires { s.at + cells_bytes ≤ length self.old.out }
+        ensures written { Wrote self.old.out s.at (ended_of (machine_of s self.old)) cells_bytes result self.new.out }
+        ensures others { SameButOut self.old self.new }
+    {
+        crate::ended(s, &self.plan, &self.memory, &mut self.out)
     }
 }

@@ -1,11 +1,8 @@
 // A cycle's line: its numbers, the cycle, and the line that is written for it.
-ghost use Rattle.std.specs.Prelude.{◌≡◌, ◌+◌, ◌<◌, ◌≤◌, length, take, IfSome};
-ghost use Rattle.cycle_line.specs.Shown.{line_bytes};
+ghost use Rattle.std.specs.Prelude.{◌≡◌, ◌<◌, ◌≤◌, length, take, IfSome};
 ghost use Rattle.language.specs.Limits.{limits};
-ghost use Rattle.input_bytes.specs.Lines.{cells_of, next_input, done_of, Ran, mask_after, values_after, turned_of, standing_of, number_ends, line_byte, Left};
-ghost use Rattle.input_bytes.specs.Tables.{SameTexts};
+ghost use Rattle.input_bytes.specs.Lines.{cells_of, next_input, done_of, Ran, mask_after, values_after, turned_of, standing, number_ends, line_byte, Left, Roomy};
 
-use crate::tables::Tables;
 use cycle_line::{ports, show};
 use figures::{Stage, State};
 use plan::{cells_before, memory_count, port_at};
@@ -63,28 +60,22 @@ fn ran(plan: &[u32], mask: u32, values: &[u64], outputs: &mut [u64], memory: &mu
 }
 
 // The line is whole: the cycle is run, and its line written.
-fn turned(s: State, mask: u32, tables: &mut Tables) -> State
-    requires { s.at + line_bytes ≤ length tables.old.out }
-    ensures made { let made = turned_of s mask (take s.plan tables.old.plan) tables.old.values tables.old.outputs tables.old.memory in
-        Left made tables.old.out s.at (standing_of result tables.new) tables.new.out }
-    ensures texts { SameTexts tables.old tables.new }
+fn turned(
+    s: State,
+    mask: u32,
+    plan: &[u32],
+    values: &[u64],
+    outputs: &mut [u64],
+    memory: &mut [u64],
+    out: &mut [u8],
+) -> State
+    requires { Roomy values.now outputs.old memory.old out.old s.at }
+    ensures { let made = turned_of s mask plan.now values.now outputs.old memory.old in
+        let after = standing result values.now outputs.new memory.new in
+        Left made out.old s.at after out.new }
 {
-    let plan = planned(&tables.plan, s.plan);
-    let done = ran(
-        plan,
-        mask,
-        &tables.values,
-        &mut tables.outputs,
-        &mut tables.memory,
-    );
-    let k = show(
-        plan,
-        done.answer,
-        done.present,
-        &tables.outputs,
-        &mut tables.out,
-        s.at,
-    );
+    let done = ran(plan, mask, values, outputs, memory);
+    let k = show(plan, done.answer, done.present, outputs, out, s.at);
     State {
         stage: Stage::Line,
         number: None,
@@ -112,42 +103,59 @@ fn keep_value(s: State, n: u64, values: &mut [u64]) -> u32
 }
 
 // A number of the line has ended: a blank before the next input's value, a newline after the last.
-fn number_ends(s: State, n: u64, b: u8, tables: &mut Tables) -> State
-    requires { s.at + line_bytes ≤ length tables.old.out }
-    ensures made { let made = number_ends s n b (take s.plan tables.old.plan) tables.old.values tables.old.outputs tables.old.memory in
-        Left made tables.old.out s.at (standing_of result tables.new) tables.new.out }
-    ensures texts { SameTexts tables.old tables.new }
+fn number_ends(
+    s: State,
+    n: u64,
+    b: u8,
+    plan: &[u32],
+    values: &mut [u64],
+    outputs: &mut [u64],
+    memory: &mut [u64],
+    out: &mut [u8],
+) -> State
+    requires { Roomy values.old outputs.old memory.old out.old s.at }
+    ensures { let made = number_ends s n b plan.now values.old outputs.old memory.old in
+        let after = standing result values.new outputs.new memory.new in
+        Left made out.old s.at after out.new }
 {
-    match next_input(planned(&tables.plan, s.plan), s.port) {
+    match next_input(plan, s.port) {
         Some(i) => {
             if b != b' ' {
                 return s.wrong();
             }
-            let mask = keep_value(s, n, &mut tables.values);
+            let mask = keep_value(s, n, values);
             s.at_port(mask, i + 1)
         }
         None => {
             if b != b'\n' {
                 return s.wrong();
             }
-            let mask = keep_value(s, n, &mut tables.values);
-            turned(s, mask, tables)
+            let mask = keep_value(s, n, values);
+            turned(s, mask, plan, values, outputs, memory, out)
         }
     }
 }
 
 // A byte of a cycle's line.
-pub fn line_byte(s: State, b: u8, tables: &mut Tables) -> State
-    requires { s.at + line_bytes ≤ length tables.old.out }
-    ensures made { let made = line_byte s b tables.old.plan tables.old.values tables.old.outputs tables.old.memory in
-        Left made tables.old.out s.at (standing_of result tables.new) tables.new.out }
-    ensures texts { SameTexts tables.old tables.new }
+pub fn line_byte(
+    s: State,
+    b: u8,
+    plan: &[u32],
+    values: &mut [u64],
+    outputs: &mut [u64],
+    memory: &mut [u64],
+    out: &mut [u8],
+) -> State
+    requires { Roomy values.old outputs.old memory.old out.old s.at }
+    ensures { let made = line_byte s b plan.now values.old outputs.old memory.old in
+        let after = standing result values.new outputs.new memory.new in
+        Left made out.old s.at after out.new }
 {
     if s.takes_in_line(b) {
         return s.longer(b);
     }
     match s.number {
-        Some(n) => number_ends(s, n, b, tables),
+        Some(n) => number_ends(s, n, b, planned(plan, s.plan), values, outputs, memory, out),
         None => s.wrong(),
     }
 }

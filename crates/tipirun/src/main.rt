@@ -7,7 +7,7 @@ mod steps;
 mod texts;
 
 use figures::State;
-use input_bytes::{Tables, ended};
+use input_bytes::Tables;
 use std::io::{Read, Write};
 use steps::feed;
 
@@ -32,6 +32,6 @@ fn main(rt: HostRuntime) {
         let _ = stdout.write_all(&tables.out[..s.at]);
         s = s.emptied();
     }
-    let end = ended(s, &mut tables);
+    let end = tables.ended(s);
     let _ = stdout.write_all(&tables.out[..end]);
 }

@@ -6,14 +6,14 @@ ghost use Rattle.tipirun.specs.Machine.{Steps, Feeds};
 
 use crate::texts::passed;
 use figures::State;
-use input_bytes::{Tables, moved};
+use input_bytes::Tables;
 
 // One byte.
 pub fn step(s: State, b: u8, tables: &mut Tables) -> State
     requires { s.at + line_bytes ≤ length tables.old.out }
     ensures { Steps (machine_of s tables.old) b tables.old.out (machine_of result tables.new) tables.new.out }
 {
-    let t = moved(s, b, tables);
+    let t = tables.moved(s, b);
     passed(t, &tables.actor, &tables.bindings, &mut tables.plan)
 }
 

@@ -1,7 +1,5 @@
 -- `moved` meets its contract. Assumes nothing.
-use mathlib.Core.Path.{subst}
-use Rattle.input_bytes.specs.Bytes.{Machine, machine_of, moved_of, TablesStand}
-use Rattle.input_bytes.proofs.Bytewise.{counts_actor, counts_bindings, counts_cycles, keeps_actor, keeps_bindings, lines, kept, read_no_more}
+use Rattle.input_bytes.proofs.Bytewise.{counts_actor, counts_bindings, counts_cycles, keeps_actor, keeps_bindings, lines, read_no_more}
 use Rattle.input_bytes.proofs.moved.Goals as goal
 
 pub returns-in-ActorCount : goal.returns-in-ActorCount
@@ -20,9 +18,7 @@ pub returns-in-CycleCount : goal.returns-in-CycleCount
 returns-in-CycleCount c = counts_cycles _ _ _ _ _ _ _ _ _ _ c.in-CycleCount.is c.count_byte-in-CycleCount.ensures
 
 pub returns-in-Line : goal.returns-in-Line
-returns-in-Line c =
-    subst (λ (z : Machine). TablesStand (moved_of (machine_of c.args.s c.args.tables.now) c.args.b) c.args.tables.now.out c.args.s.at 378 z c.line_byte.new.tables.out) (kept _ _ _ c.line_byte.ensures.texts)
-    (lines _ _ _ _ _ _ _ _ _ _ _ _ _ _ c.in-Line.is c.line_byte.ensures.made)
+returns-in-Line c = lines _ _ _ _ _ _ _ _ _ _ _ _ _ _ c.in-Line.is c.line_byte.ensures
 
 pub returns-in-Through : goal.returns-in-Through
 returns-in-Through c = read_no_more _ _ _ _ _ _ _ _ _ c.in-Through.is
