@@ -19,7 +19,9 @@ fn planned(s: State, n: u32) -> State
     }
 }
 
-// Both texts are there: they are read.
+// Both texts are there: they are read. A function of its own in the program too: the tables of all rows are its frame, and
+// a byte that is only counted or kept does not pay for them.
+#[inline(never)]
 fn judged(s: State, actor: &[u8], bindings: &[u8], plan: &mut [u32]) -> State
     ensures { Judged (take s.actor actor.now) (take s.bindings bindings.now) s plan.old result plan.new }
 {
