@@ -70,6 +70,8 @@ pub fn same_bytes(a: &[u8], b: &[u8]) -> bool
 }
 
 // Which fixed word the run is, in the order of the list; `FIXED` where it is none, as the definition's `index` has it.
+// Kept apart, so that `good_name` after it looks the same run up no second time.
+#[inline(never)]
 pub fn spelled(run: &[u8]) -> usize
     ensures { result ≡ index (spellings fixed_names) run.now }
 {
