@@ -17,7 +17,7 @@ use language::Exact;
 // As many values wait at once as a type has words at most.
 const WORDS: usize = language::Type::WORDS as usize;
 
-// What stands where no value waits: zeros, which cost nothing to fill in.
+// What stands where no value waits: zeros, which are filled in at once.
 const VOID: Exact = Exact {
     up: 0,
     down: 0,
